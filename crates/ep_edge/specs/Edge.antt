@@ -1,0 +1,37 @@
+-- What a call on the outside does to what the object tells.
+use Rattle.std.specs.Prelude.{◌≡◌, ℕ, ◌+◌, ◌-◌, ◌^◌, ◌≤◌, Bool, true, false, min, List, [], ◌++◌, take, Option, Some, None, IfSome}
+use Rattle.ep_edge.specs.declared.source.Got.{Got}
+use Rattle.ep_edge.specs.declared.source.Got.TheVariants.{Bytes, End, Failed}
+
+-- a count of faults rose, or stands where it can't rise any more
+abbrev pub Rose : ℕ → ℕ → Type 0
+Rose old new = min (old + 1) (2 ^ 64 - 1) ≤ new
+
+-- the bytes that a read gave, out of its buffer
+abbrev pub bytes_read : Got → List ℕ → List ℕ
+bytes_read (Bytes n) into = take n into
+bytes_read End into = []
+bytes_read Failed into = []
+
+abbrev pub is_end : Got → Bool
+is_end (Bytes n) = false
+is_end End = true
+is_end Failed = false
+
+-- these bytes were taken from the front of what was left, where that is told
+abbrev pub Takes : Option (List ℕ) → Option (List ℕ) → List ℕ → Type 0
+Takes None new bytes = new ≡ None
+Takes (Some left) new bytes = (rest : List ℕ) × (left ≡ bytes ++ rest) × (new ≡ Some rest)
+
+-- nothing is left, where that is told
+abbrev pub IsEmptied : Option (List ℕ) → Type 0
+IsEmptied left = IfSome left (λ bytes. bytes ≡ [])
+
+-- these bytes were put behind what was held, where that is told
+abbrev pub Appends : Option (List ℕ) → Option (List ℕ) → List ℕ → Type 0
+Appends None new bytes = new ≡ None
+Appends (Some held) new bytes = new ≡ Some (held ++ bytes)
+
+-- the same of some front of these bytes
+abbrev pub AppendsFront : Option (List ℕ) → Option (List ℕ) → List ℕ → Type 0
+AppendsFront old new bytes = (front rest : List ℕ) × (bytes ≡ front ++ rest) × Appends old new front

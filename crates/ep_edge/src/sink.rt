@@ -1,0 +1,26 @@
+// Where bytes go.
+ghost use Rattle.std.specs.Prelude.{◌≡◌, ◌<◌, ◌≤◌, ℕ, List, Option, length};
+ghost use Rattle.ep_edge.specs.Edge.{Appends, AppendsFront, Rose};
+
+/// How a write went.
+#[derive(Clone, Copy, Debug, PartialEq, Eq)]
+pub enum Put {
+    Done,
+    Failed,
+}
+
+/// Where bytes go.
+pub trait Sink: Drop {
+    /// The bytes that were written, where the sink tells them.
+    ghost held: { Self → Option (List ℕ) };
+
+    /// How often it has failed. A count that stands at 2^64 - 1 stays there.
+    ghost faults: { Self → ℕ };
+
+    /// Writes all the bytes. A failed write may have written some of them, from the first on.
+    fn write(&mut self, bytes: &[u8]) -> Put
+        requires { 0 < length bytes.now }
+        ensures done { result ≡ Put.Done → Appends (held self.old) (held self.new) bytes.now }
+        ensures failed { result ≡ Put.Failed → AppendsFront (held self.old) (held self.new) bytes.now × Rose (faults self.old) (faults self.new) }
+        ensures faults { faults self.old ≤ faults self.new };
+}

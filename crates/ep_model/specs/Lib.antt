@@ -1,0 +1,6 @@
+pub mod Limits
+pub mod World
+pub mod Answer
+pub mod History
+pub mod Codes
+pub mod Plain

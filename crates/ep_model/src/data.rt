@@ -1,0 +1,94 @@
+// What clauses see of a call, of an event and of a buffer: plain data, in which bytes are lists and nothing
+// has an address. No value of these types is made.
+use crate::{Cause, Reply, StoreKind, Ticket, VbState};
+use std::collections::LinkedList;
+
+/// A `Call` as clauses see it.
+pub enum CallData {
+    Get {
+        key: LinkedList<u8>,
+    },
+    Store {
+        kind: StoreKind,
+        key: LinkedList<u8>,
+        value: LinkedList<u8>,
+        flags: u32,
+        expiration: u32,
+        cas: u64,
+    },
+    Join {
+        front: bool,
+        key: LinkedList<u8>,
+        value: LinkedList<u8>,
+        cas: u64,
+    },
+    Count {
+        down: bool,
+        key: LinkedList<u8>,
+        delta: u64,
+        initial: u64,
+        expiration: u32,
+        cas: u64,
+    },
+    Delete {
+        key: LinkedList<u8>,
+        cas: u64,
+    },
+    Touch {
+        key: LinkedList<u8>,
+        expiration: u32,
+        fetch: bool,
+    },
+    Observe {
+        uuid: u64,
+    },
+    Failovers,
+    SetState {
+        state: VbState,
+    },
+    GetState,
+}
+
+/// An `Event` as clauses see it.
+pub enum EventData {
+    Called {
+        caller: u64,
+        call: CallData,
+        now: u64,
+        reply: Reply,
+        value: LinkedList<u8>,
+    },
+    Refused {
+        caller: u64,
+        call: CallData,
+        now: u64,
+        cause: Cause,
+    },
+    Expired {
+        key: LinkedList<u8>,
+        now: u64,
+    },
+    Persisted {
+        number: u64,
+    },
+    Marked {
+        stripe: u16,
+        number: u64,
+    },
+    Asked {
+        ticket: Ticket,
+        caller: u64,
+        call: CallData,
+    },
+    ReadFailed {
+        ticket: Ticket,
+        fault: u64,
+    },
+    Opened,
+}
+
+/// An `Out` as clauses see it: its bytes, and how many more it takes.
+pub struct OutData {
+    pub bytes: LinkedList<u8>,
+    pub spare: u64,
+}

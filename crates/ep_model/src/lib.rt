@@ -1,0 +1,21 @@
+//! The model of a vBucket: the types that the crates share, the buffer that answers go into, and in
+//! `specs/` the definitions of a vBucket's world, of the answer to a call and of a legal history.
+#![tactic(auto)]
+
+mod call;
+mod config;
+mod data;
+mod event;
+pub mod limits;
+mod memory;
+mod out;
+mod plain;
+pub mod status;
+
+pub use call::{Call, Meta, Reply, StoreKind, VbState};
+pub use config::{Config, Eviction, Field};
+pub use data::{CallData, EventData, OutData};
+pub use event::{Busy, Cause, Event, PartName, Phase, Ticket};
+pub use memory::NoMemory;
+pub use out::Out;
+pub use plain::Plain;

@@ -1,0 +1,4 @@
+pub mod Feeder
+pub mod Frames
+pub mod Division
+pub mod Response

@@ -1,0 +1,36 @@
+// Writing a response frame.
+ghost use Rattle.std.specs.Prelude.{◌≡◌, ◌+◌, ◌<◌, ◌≤◌, ◌^◌, ◌++◌, length};
+ghost use Rattle.mcbp_frame.specs.Response.{response};
+
+use crate::frame::RESPONSE;
+use ep_model::Out;
+
+/// Appends one response frame. The lengths of the extras, the key and the body fit 8, 16 and 32 bits. Its cost
+/// is linear in the frame's length.
+pub fn put_response(
+    out: &mut Out,
+    opcode: u8,
+    status: u16,
+    opaque: u32,
+    cas: u64,
+    datatype: u8,
+    extras: &[u8],
+    key: &[u8],
+    value: &[u8],
+)
+    requires spare { 24 + length extras.now + length key.now + length value.now ≤ out.old.spare }
+    requires extras_fit { length extras.now < 2 ^ 8 }
+    requires key_fits { length key.now < 2 ^ 16 }
+    requires body_fits { length extras.now + length key.now + length value.now < 2 ^ 32 }
+
+    ensures bytes { out.new.bytes ≡ out.old.bytes ++ response opcode status opaque cas datatype extras.now key.now value.now }
+    ensures spare { out.new.spare + (24 + length extras.now + length key.now + length value.now) ≡ out.old.spare }
+{
+    let key_len = (key.len() as u16).to_be_bytes();
+    let status = status.to_be_bytes();
+    let body_len = ((extras.len() + key.len() + value.len()) as u32).to_be_bytes();
+    let opaque = opaque.to_be_bytes();
+    let cas = cas.to_be_bytes();
+    out.push(&[RESPONSE, opcode]);
+    out.push(&key_len);
+}
