@@ -1,0 +1,4 @@
+pub mod AnswerLemmas
+pub mod HistoryLemmas
+pub mod PlainAnswers
+pub mod PlainLemmas

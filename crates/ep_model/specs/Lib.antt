@@ -2,5 +2,6 @@ pub mod Limits
 pub mod World
 pub mod Answer
 pub mod History
+pub mod Cas
 pub mod Codes
 pub mod Plain

@@ -93,3 +93,21 @@ pub struct Meta {
     pub deleted: bool,
     pub len: u32,
 }
+
+impl Reply {
+    ghost use Rattle.std.specs.Prelude.{◌≡◌};
+    ghost use Rattle.ep_model.specs.Answer.{refused};
+
+    /// A status alone.
+    pub fn refusal(status: u16) -> Reply
+        ensures { result ≡ (refused status).reply }
+    {
+        Reply {
+            status,
+            cas: 0,
+            flags: 0,
+            uuid: 0,
+            seqno: 0,
+        }
+    }
+}

@@ -5,11 +5,13 @@
 mod call;
 mod config;
 mod data;
+mod document;
 mod event;
 pub mod limits;
 mod memory;
 mod out;
 mod plain;
+pub mod rules;
 pub mod status;
 
 pub use call::{Call, Meta, Reply, StoreKind, VbState};
