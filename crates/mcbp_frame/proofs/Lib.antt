@@ -1,0 +1,2 @@
+pub mod FirstFrame
+pub mod HeldBytes

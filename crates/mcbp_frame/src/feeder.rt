@@ -1,10 +1,12 @@
 // Bytes in pieces of any size become whole frames and a rest.
-ghost use Rattle.std.specs.Prelude.{◌≡◌, ◌+◌, ◌-◌, ◌<◌, ◌≤◌, ◌^◌, ◌++◌, [], length, take, min, IfOk};
+ghost use Rattle.std.specs.Prelude.{◌≡◌, ◌+◌, ◌-◌, ◌<◌, ◌≤◌, ◌^◌, ◌++◌, [], length, take, drop, min, IfOk};
 ghost use Rattle.std.specs.Borrow.{sem};
 ghost use Rattle.std.specs.Io.BufRead.{Rests};
 ghost use Rattle.mcbp_frame.specs.Feeder.{Gives, after_next};
+ghost use Rattle.mcbp_frame.specs.Frames.{IsFrame, body_length, frame_at, frame_data};
 
 use crate::frame::{Frame, HEADER, MAX_BODY, REQUEST};
+use byteorder::{BigEndian, ByteOrder};
 use ep_model::NoMemory;
 use std::alloc::Global;
 use std::collections::LinkedList;
@@ -80,7 +82,15 @@ impl Feeder {
         ensures rest { self.new.rest ≡ self.old.rest ++ take result piece.now }
         ensures at { self.new.at ≡ self.old.at }
     {
-        0
+        let taken = piece.len().min(CAPACITY - (self.end - self.start));
+        if taken > CAPACITY - self.end {
+            move_to_front(&mut self.buffer, self.start, self.end);
+            self.end -= self.start;
+            self.start = 0;
+        }
+        write_at(&mut self.buffer, self.end, &piece[..taken]);
+        self.end += taken;
+        taken
     }
 
     /// Hands out the next frame, in constant time. At anything else it changes nothing, and answers the same again.
@@ -89,7 +99,13 @@ impl Feeder {
         ensures gives { Gives self.old result }
         ensures* after { sem 𝓛 (Rests the_row self.entry (λ new. new ≡ after_next self.old result)) }
     {
-        Next::Need
+        let next = look(&self.buffer[self.start..self.end], self.at);
+        if let Next::Frame(frame) = next {
+            let length = HEADER + frame.body.len();
+            self.start += length;
+            self.at += length as u64;
+        }
+        next
     }
 
     /// How many bytes were fed and not handed out.
@@ -104,5 +120,72 @@ impl Feeder {
         ensures { result ≡ self.now.at }
     {
         self.at
+    }
+}
+
+// Moves the bytes from `start` to `end` to the front.
+fn move_to_front(buffer: &mut [u8], start: usize, end: usize)
+    requires ordered { start ≤ end }
+    requires within { end ≤ length buffer.old }
+    ensures { take (end - start) buffer.new ≡ take (end - start) (drop start buffer.old) }
+{
+    buffer.copy_within(start..end, 0);
+}
+
+// Writes the bytes from `at` on.
+fn write_at(buffer: &mut [u8], at: usize, bytes: &[u8])
+    requires { at + length bytes.now ≤ length buffer.old }
+    ensures { buffer.new ≡ take at buffer.old ++ bytes.now ++ drop (at + length bytes.now) buffer.old }
+{
+    buffer[at..at + bytes.len()].copy_from_slice(bytes);
+}
+
+// What comes next where a feeder holds `rest`, whose first byte has the place `at`.
+fn look(rest: &[u8], at: u64) -> Next<'_>
+    ensures { Gives (record { at = at; rest = rest.now }) result }
+{
+    if rest.is_empty() {
+        return Next::Need;
+    }
+    if rest[0] != REQUEST {
+        return Next::BadMagic { at };
+    }
+    if rest.len() < HEADER {
+        return Next::Need;
+    }
+    let body_len = body_len_of(rest);
+    if body_len > MAX_BODY {
+        return Next::TooLong { at };
+    }
+    let length = HEADER + body_len;
+    if rest.len() < length {
+        return Next::Need;
+    }
+    Next::Frame(frame_of(&rest[..length], at))
+}
+
+// The body length that a header says.
+fn body_len_of(header: &[u8]) -> usize
+    requires { HEADER ≤ length header.now }
+    ensures { result ≡ body_length header.now }
+{
+    BigEndian::read_u32(&header[8..]) as usize
+}
+
+// The frame that stands in `bytes`.
+fn frame_of(bytes: &[u8], at: u64) -> Frame<'_>
+    requires { IsFrame bytes.now }
+    ensures { frame_data result ≡ frame_at bytes.now at }
+{
+    Frame {
+        opcode: bytes[1],
+        key_len: BigEndian::read_u16(&bytes[2..]),
+        extras_len: bytes[4],
+        datatype: bytes[5],
+        vbucket: BigEndian::read_u16(&bytes[6..]),
+        opaque: BigEndian::read_u32(&bytes[12..]),
+        cas: BigEndian::read_u64(&bytes[16..]),
+        body: &bytes[HEADER..],
+        at,
     }
 }

@@ -26,11 +26,38 @@ pub fn put_response(
     ensures bytes { out.new.bytes ≡ out.old.bytes ++ response opcode status opaque cas datatype extras.now key.now value.now }
     ensures spare { out.new.spare + (24 + length extras.now + length key.now + length value.now) ≡ out.old.spare }
 {
-    let key_len = (key.len() as u16).to_be_bytes();
-    let status = status.to_be_bytes();
-    let body_len = ((extras.len() + key.len() + value.len()) as u32).to_be_bytes();
-    let opaque = opaque.to_be_bytes();
-    let cas = cas.to_be_bytes();
-    out.push(&[RESPONSE, opcode]);
-    out.push(&key_len);
+    let [key_high, key_low] = (key.len() as u16).to_be_bytes();
+    let [status_high, status_low] = status.to_be_bytes();
+    let [b0, b1, b2, b3] = ((extras.len() + key.len() + value.len()) as u32).to_be_bytes();
+    let [o0, o1, o2, o3] = opaque.to_be_bytes();
+    let [c0, c1, c2, c3, c4, c5, c6, c7] = cas.to_be_bytes();
+    out.push(&[
+        RESPONSE,
+        opcode,
+        key_high,
+        key_low,
+        extras.len() as u8,
+        datatype,
+        status_high,
+        status_low,
+        b0,
+        b1,
+        b2,
+        b3,
+        o0,
+        o1,
+        o2,
+        o3,
+        c0,
+        c1,
+        c2,
+        c3,
+        c4,
+        c5,
+        c6,
+        c7,
+    ]);
+    out.push(extras);
+    out.push(key);
+    out.push(value);
 }
