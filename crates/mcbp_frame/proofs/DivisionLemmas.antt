@@ -1,14 +1,13 @@
 -- A text divides into frames and a rest in exactly one way.
-use Rattle.std.proofs.Common.{◌≡◌, ◌≢◌, ℕ, zero, suc, ◌+◌, ◌-◌, ◌*◌, ◌^◌, ◌<◌, ◌≤◌, ◌⊎◌, inl, inr, Bool, true, false, ◌&&◌, List, [], ◌∷◌, ◌++◌, length, take, drop, get_or, eqb, ltb, leb, refl, sym, ap, ap₂, ◌∙◌, subst, arith, rules}
+use Rattle.std.proofs.Common.{◌≡◌, ℕ, zero, suc, ◌+◌, ◌<◌, ◌≤◌, ◌⊎◌, inl, inr, Bool, true, ◌&&◌, List, [], ◌∷◌, ◌++◌, length, take, drop, eqb, leb, refl, sym, ap, ap₂, ◌∙◌, subst, arith}
 use Rattle.std.specs.Prelude.{slice_index}
 use Rattle.std.specs.Bool.{Decides}
 use Rattle.std.specs.List.{AllByRecursion, concat}
-use Rattle.std.proofs.lemmas.Bool.{cases_Bool, cases_lt, cases_eq, leb-true, leb-false, le-leb, lt-leb, eqb-true, eqb-false, eq-eqb, ne_eqb, and_from, and_parts}
+use Rattle.std.proofs.lemmas.Bool.{cases_lt, cases_eq, leb-true, le-leb}
 use Rattle.std.proofs.lemmas.Bool.Decides.{Decides-and, Decides-eqb, Decides-like}
-use Rattle.std.proofs.lemmas.Grind.{common_steps}
-use Rattle.std.proofs.lemmas.List.{append_assoc, append_cancel_left, drop-append-le, drop_at, get_or_append_left, get_or-take, length-append, length-drop, length-take-le, take-append-drop, take_at}
+use Rattle.std.proofs.lemmas.List.{append_assoc, drop-append-le, drop_at, get_or_append_left, get_or-take, length-append, length-drop, length-take-le, take-append-drop, take_at}
 use Rattle.std.proofs.lemmas.List.Folds.{concat-append}
-use Rattle.byteorder.specs.Endian.{big_number, big_from}
+use Rattle.byteorder.specs.Endian.{big_from}
 use Rattle.mcbp_frame.specs.declared.frame.TheConstants.{REQUEST, HEADER, MAX_BODY}
 use Rattle.mcbp_frame.specs.Frames.{body_length, frame_length, IsFrame}
 use Rattle.mcbp_frame.specs.Division.{Divides, HasBadMagic, IsTooLong, IsPartial}
@@ -229,6 +228,12 @@ divides-append more {text} {frames} {later} {rest} {rest'} d e = record {
   each = each-append frames later d.each e.each;
   over = e.over;
 }
+
+-- bytes that follow change no division that ends in a rest that they can't mend
+pub divides-stuck : (more : List ℕ) {text : List ℕ} {frames : List (List ℕ)} {rest : List ℕ} → Divides text frames rest → HasBadMagic rest ⊎ IsTooLong rest → Divides (text ++ more) frames (rest ++ more)
+divides-stuck more {frames = frames} {rest = rest} d stuck =
+    let still : IsRest (rest ++ more) = elim stuck [ inl bad ↦ inr (inl (bad_magic-append rest more bad)) | inr long ↦ inr (inr (too_long-append rest more long)) ] in
+    divides-front frames (rest ++ more) (ap (λ t. t ++ more) d.whole ∙ append_assoc (concat frames) rest more) d.each still
 
 -- a text of at most n bytes has a division
 some_within : (n : ℕ) (text : List ℕ) → length text ≤ n → (frames : List (List ℕ)) × (rest : List ℕ) × Divides text frames rest
