@@ -1,2 +1,3 @@
 pub mod FirstFrame
 pub mod HeldBytes
+pub mod DivisionLemmas

@@ -2,3 +2,4 @@ pub mod Feeder
 pub mod Frames
 pub mod Division
 pub mod Response
+pub mod Laws
