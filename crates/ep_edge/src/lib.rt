@@ -3,9 +3,22 @@
 #![tactic(auto)]
 
 mod clock;
+mod data;
+mod failures;
+mod memory_clock;
+mod memory_sink;
+mod memory_source;
 mod sink;
 mod source;
+mod standard;
 
 pub use clock::Clock;
+pub use data::{
+    ClockData, FailuresData, ReaderData, SinkData, SourceData, SystemClockData, WriterData,
+};
+pub use memory_clock::MemoryClock;
+pub use memory_sink::MemorySink;
+pub use memory_source::MemorySource;
 pub use sink::{Put, Sink};
 pub use source::{Got, Source};
+pub use standard::{ReaderSource, SystemClock, WriterSink};
