@@ -1,0 +1,6 @@
+pub mod Kept
+pub mod Fronts
+pub mod Stands
+pub mod Pieces
+pub mod Sessions
+pub mod Ends

@@ -1,0 +1,201 @@
+-- A session goes on piece by piece, and how it stops.
+use Rattle.std.proofs.Common.{◌≡◌, ◌≢◌, ◌⊎◌, ℕ, ◌+◌, ◌≤◌, ◌<◌, Bool, true, false, ◌||◌, List, [], ◌∷◌, ◌++◌, length, refl, sym, ap, subst, ◌∙◌, inl, inr, Option, None, Some, arith, append_assoc, append-nil, zero-add, length-append}
+use Rattle.std.specs.List.{concat}
+use Rattle.ep_edge.specs.Edge.{Takes, Rose, IsEmptied, Appends}
+use Rattle.ep_edge.specs.declared.source.Got.{Got}
+use Rattle.ep_edge.specs.declared.source.Got.TheVariants as got
+use Rattle.ep_model.specs.History.{IsLegal}
+use Rattle.mcbp_frame.specs.declared.feeder.FeederData.{FeederData}
+use Rattle.mcbp_frame.specs.Division.{IsPartial}
+use Rattle.ep_top.specs.declared.end.End.{End}
+use Rattle.ep_top.specs.declared.end.End.TheVariants as ends
+use Rattle.ep_top.specs.declared.front.Front.{Front}
+use Rattle.ep_top.specs.declared.session.TheConstants.{MAX_TAKEN}
+use Rattle.ep_top.specs.Front.{start, IsSound, IsFresh}
+use Rattle.ep_top.specs.Outside.{Outside}
+use Rattle.ep_top.specs.Piece.{Feeds}
+use Rattle.ep_top.specs.Stand.{Stand, stand, bytes_of, Serves, Breaks, HasStopped, IsFaulty}
+use Rattle.ep_top.specs.Session.{HasEnded, MayGoOn, Comes, begin, Progress, Stops, EndsAt}
+use Rattle.ep_top.proofs.Stands.{serves_then, rose_from, appends_nothing}
+
+pub or_false : (b : Bool) → (b || false) ≡ b
+or_false true = refl
+or_false false = refl
+
+pub or_true : (b : Bool) → (b || true) ≡ true
+or_true true = refl
+or_true false = refl
+
+pub takes_then : (a b c : Option (List ℕ)) (x y : List ℕ) → Takes a b x → Takes b c y → Takes a c (x ++ y)
+takes_then None b c x y p q = subst (λ (o : Option (List ℕ)). Takes o c y) p q
+takes_then (Some l) b c x y (rest, e, is) q =
+    let later = subst (λ (o : Option (List ℕ)). Takes o c y) is q in
+    (later.0, e ∙ ap (λ t. x ++ t) later.1 ∙ sym (append_assoc x y later.0), later.2)
+
+pub takes_nothing : (a : Option (List ℕ)) → Takes a a []
+takes_nothing None = refl
+takes_nothing (Some l) = (l, refl, refl)
+
+no_bytes : (l : List ℕ) → length l ≡ 0 → l ≡ []
+no_bytes [] e = refl
+no_bytes (x ∷ l) e = absurd (omega arith)
+
+-- more bytes came behind those that were taken
+serves_fed : (before : Outside) (taken piece : List ℕ) (b : Stand) → Serves (begin before taken) b
+    → Serves (begin before (taken ++ piece)) (record { rest = b.rest ++ piece; history = b.history; pending = b.pending; held = b.held; moment = b.moment })
+serves_fed before taken piece b p = record {
+  served = p.served;
+  written = p.written;
+  rest = ap (λ l. l ++ piece) p.rest ∙ append_assoc (concat (bytes_of p.served)) b.rest piece;
+  each = p.each;
+  noted = p.noted;
+  texts = p.texts;
+  wrote = p.wrote;
+  moments = p.moments;
+  asked = p.asked;
+}
+
+-- a session that was at the end of all whole frames got a piece, which is `fed` with what it held
+serves_piece : (before mid now : Outside) (count : ℕ) (got : Got) (rest fed : List ℕ) (front : Front) (p : Progress before mid count rest front) (f : Feeds got rest fed mid.left now.left)
+    → Serves (begin before (p.taken ++ f.piece)) (stand fed front mid.held mid.moment)
+serves_piece before mid now count got rest fed front p f =
+    subst (λ (l : List ℕ). Serves (begin before (p.taken ++ f.piece)) (stand l front mid.held mid.moment)) (sym f.fed) (serves_fed before p.taken f.piece _ p.serves)
+
+pub progress_more : (before mid now : Outside) (count n : ℕ) (rest fed rest' : List ℕ) (front front' : Front)
+    → Progress before mid count rest front → Feeds (got.Bytes n) rest fed mid.left now.left
+    → Serves (stand fed front mid.held mid.moment) (stand rest' front' now.held now.moment)
+    → IsSound front' → IsPartial rest' → front'.answers.bytes ≡ [] → now.has_ended ≡ mid.has_ended → mid.read_faults ≤ now.read_faults → mid.write_faults ≤ now.write_faults
+    → Progress before now (count + n) rest' front'
+progress_more before mid now count n rest fed rest' front front' p f s sound partial written going read write = record {
+  taken = p.taken ++ f.piece;
+  counted = omega (arith, length-append p.taken f.piece, p.counted, f.count);
+  takes = takes_then _ _ _ _ _ p.takes f.takes;
+  serves = serves_then _ _ _ (serves_piece before mid now count (got.Bytes n) rest fed front p f) s;
+  sound = sound;
+  partial = partial;
+  written = written;
+  going = going ∙ p.going;
+  read_faults = omega (arith, p.read_faults);
+  write_faults = omega (arith, p.write_faults);
+}
+
+-- why serving stopped is how the session ends
+comes_from : (end : End) (before now : Outside) (taken rest kept : List ℕ) (at : ℕ) (rose : Type 0) → (rose → Rose before.write_faults now.write_faults) → at + length kept ≡ length taken
+    → HasStopped end rest kept at rose → Comes before now taken rest end
+comes_from ends.BadWords before now taken rest kept at rose f place h = absurd h
+comes_from ends.NoMemory before now taken rest kept at rose f place h = tt
+comes_from (ends.Torn t) before now taken rest kept at rose f place h = (inl h.0, omega (arith, ap (λ l. length l) h.1, h.2))
+comes_from ends.Limit before now taken rest kept at rose f place h = absurd h
+comes_from ends.ReadFault before now taken rest kept at rose f place h = absurd h
+comes_from ends.WriteFault before now taken rest kept at rose f place h = f h
+comes_from ends.Closed before now taken rest kept at rose f place h = absurd h
+
+not_bad_words : (end : End) (rest kept : List ℕ) (at : ℕ) (rose : Type 0) → HasStopped end rest kept at rose → end ≢ ends.BadWords
+not_bad_words end rest kept at rose h e = subst (λ (x : End). HasStopped x rest kept at rose) e h
+
+pub stops_in_frames : (end : End) (before mid now : Outside) (count n at : ℕ) (rest fed rest' : List ℕ) (front front' : Front)
+    → Progress before mid count rest front → Feeds (got.Bytes n) rest fed mid.left now.left
+    → Breaks end (stand fed front mid.held mid.moment) (stand rest' front' now.held now.moment) at (Rose mid.write_faults now.write_faults)
+    → IsLegal start front'.history → at + length rest' ≡ count + n
+    → Stops before now end front'
+stops_in_frames end before mid now count n at rest fed rest' front front' p f b legal place =
+    let long : length (p.taken ++ f.piece) ≡ count + n = omega (arith, length-append p.taken f.piece, p.counted, f.count) in
+    record {
+      taken = p.taken ++ f.piece;
+      rest = b.rest;
+      pending = b.pending;
+      moment = b.moment;
+      takes = takes_then _ _ _ _ _ p.takes f.takes;
+      serves = serves_then _ _ _ (serves_piece before mid now count (got.Bytes n) rest fed front p f) b.serves;
+      kept = b.kept; extra = b.extra; few = b.few; exact = b.exact; asked = b.asked;
+      legal = legal;
+      comes = comes_from end before now _ b.rest rest' at _ (rose_from _ _ _ p.write_faults) (place ∙ sym long) b.why;
+      served = not_bad_words end b.rest rest' at _ b.why;
+    }
+
+-- a session stops where all whole frames were answered, and nothing more was taken
+stops_here : (end : End) (before mid now : Outside) (count : ℕ) (rest : List ℕ) (front : Front) (p : Progress before mid count rest front)
+    → Takes before.left now.left p.taken → now.held ≡ mid.held → ((k : ℕ) → now.moment k ≡ mid.moment k) → end ≢ ends.BadWords → Comes before now p.taken rest end
+    → Stops before now end front
+stops_here end before mid now count rest front p takes held moment served comes = record {
+  taken = p.taken;
+  rest = rest;
+  pending = front.answers.bytes;
+  moment = mid.moment;
+  takes = takes;
+  serves = subst (λ (h : Option (List ℕ)). Serves (begin before p.taken) (record { rest = rest; history = front.history; pending = front.answers.bytes; held = h; moment = mid.moment })) (sym held) p.serves;
+  kept = λ _. refl;
+  extra = 0; few = omega arith; exact = λ _. refl; asked = λ k. moment k ∙ ap mid.moment (sym (zero-add k));
+  legal = p.sound.legal;
+  comes = comes;
+  served = served;
+}
+
+-- nothing was taken by a call that gave no byte
+takes_on : (a b c : Option (List ℕ)) (x y : List ℕ) → Takes a b x → Takes b c y → length y ≡ 0 → Takes a c x
+takes_on a b c x y p q e = subst (λ (l : List ℕ). Takes a c l) (ap (λ l. x ++ l) (no_bytes y e) ∙ append-nil x) (takes_then a b c x y p q)
+
+pub stops_at_limit : (before now : Outside) (count : ℕ) (rest : List ℕ) (front : Front) → Progress before now count rest front → count ≡ MAX_TAKEN → Stops before now ends.Limit front
+stops_at_limit before now count rest front p full =
+    stops_here ends.Limit before now now count rest front p p.takes refl (λ _. refl) (λ e. cc) (record { partial = p.partial; going = p.going }, p.counted ∙ full)
+
+pub stops_at_fault : (before mid now : Outside) (count : ℕ) (rest fed : List ℕ) (front : Front)
+    → Progress before mid count rest front → Feeds got.Failed rest fed mid.left now.left → now.held ≡ mid.held → ((k : ℕ) → now.moment k ≡ mid.moment k)
+    → now.has_ended ≡ mid.has_ended → Rose mid.read_faults now.read_faults → count < MAX_TAKEN
+    → Stops before now ends.ReadFault front
+stops_at_fault before mid now count rest fed front p f held moment going rose under =
+    stops_here ends.ReadFault before mid now count rest front p (takes_on _ _ _ _ _ p.takes f.takes f.count) held moment (λ e. cc)
+    (record { partial = p.partial; going = going ∙ p.going }, omega (arith, p.counted), rose_from _ _ _ p.read_faults rose)
+
+fed_nothing : (rest fed piece : List ℕ) → fed ≡ rest ++ piece → length piece ≡ 0 → fed ≡ rest
+fed_nothing rest fed piece e none = e ∙ ap (λ l. rest ++ l) (no_bytes piece none) ∙ append-nil rest
+
+ends_from : (end : End) (before now : Outside) (taken rest : List ℕ) (held : FeederData) → HasEnded now taken → IsPartial rest → held.rest ≡ rest → held.at + length rest ≡ length taken
+    → EndsAt held end → Comes before now taken rest end
+ends_from ends.BadWords before now taken rest held ended partial same place h = absurd h
+ends_from ends.NoMemory before now taken rest held ended partial same place h = absurd h
+ends_from (ends.Torn t) before now taken rest held ended partial same place h = (inr (ended, partial, λ e. h.0 (same ∙ e)), omega (arith, h.1))
+ends_from ends.Limit before now taken rest held ended partial same place h = absurd h
+ends_from ends.ReadFault before now taken rest held ended partial same place h = absurd h
+ends_from ends.WriteFault before now taken rest held ended partial same place h = absurd h
+ends_from ends.Closed before now taken rest held ended partial same place h = (ended, sym same ∙ h)
+
+no_bad_words : (held : FeederData) (end : End) → EndsAt held end → end ≢ ends.BadWords
+no_bad_words held end h e = subst (λ (x : End). EndsAt held x) e h
+
+pub stops_at_end : (end : End) (before mid now : Outside) (count : ℕ) (rest : List ℕ) (held : FeederData) (front : Front)
+    → Progress before mid count rest front → Feeds got.End rest held.rest mid.left now.left → now.held ≡ mid.held → ((k : ℕ) → now.moment k ≡ mid.moment k)
+    → now.has_ended ≡ true → IsEmptied now.left → count < MAX_TAKEN → held.at + length rest ≡ count → EndsAt held end
+    → Stops before now end front
+stops_at_end end before mid now count rest held front p f same moment ended emptied under place at =
+    stops_here end before mid now count rest front p (takes_on _ _ _ _ _ p.takes f.takes f.count) same moment (no_bad_words held end at)
+    (ends_from end before now p.taken rest held (record { ended = ended; emptied = emptied; under = omega (arith, p.counted) }) p.partial
+    (fed_nothing rest held.rest f.piece f.fed f.count) (place ∙ sym p.counted) at)
+
+pub feeds_length : (n : ℕ) (old new : List ℕ) (left now : Option (List ℕ)) → Feeds (got.Bytes n) old new left now → length new ≡ length old + n
+feeds_length n old new left now f = omega (arith, ap (λ (l : List ℕ). length l) f.fed, length-append old f.piece, f.count)
+
+-- a session begins with nothing taken
+pub progress_none : (before : Outside) (rest : List ℕ) (front : Front) → rest ≡ [] → IsFresh front → IsSound front → Progress before before 0 rest front
+progress_none before rest front none fresh sound = record {
+  taken = [];
+  counted = refl;
+  takes = takes_nothing before.left;
+  serves = record {
+    served = [];
+    written = [];
+    rest = sym none;
+    each = tt;
+    noted = fresh.history;
+    texts = fresh.answers;
+    wrote = appends_nothing before.held;
+    moments = tt;
+    asked = λ k. ap before.moment (sym (zero-add k));
+  };
+  sound = sound;
+  partial = subst (λ (l : List ℕ). IsPartial l) (sym none) (record { magic = λ h. absurd (omega arith); body = λ h. absurd (omega arith); short = λ h. absurd (omega arith) });
+  written = fresh.answers;
+  going = refl;
+  read_faults = omega arith;
+  write_faults = omega arith;
+}

@@ -1,0 +1,37 @@
+-- Piece after piece.
+use Rattle.std.proofs.Common.{◌≡◌, ◌∙◌, ◌+◌, ℕ, List, length, ap, refl, arith}
+use Rattle.ep_top.specs.Outside.{Outside, outside}
+use Rattle.ep_top.proofs.Sessions.{progress_none, progress_more, stops_in_frames, feeds_length, or_false}
+use Rattle.ep_top.proofs.session.serve_stream.Goals as goal
+
+pub pieces-init : goal.pieces-init
+pieces-init g c = record {
+  progress = progress_none _ _ _ c.requires.rest c.requires.fresh c.requires.sound;
+  place = ?;
+  under = omega arith;
+}
+
+pub returns-in-Err-clause-stops : goal.returns-in-Err-clause-stops
+returns-in-Err-clause-stops g c =
+    let long = feeds_length c.in-Bytes.n _ _ _ _ c.in-Bytes.ensures.feeds in
+    stops_in_frames c.in-Err.end _
+    (outside (g.R.Source.left c.pieces.source) (g.R.Source.has_ended c.pieces.source) (g.R.Source.faults c.pieces.source) (g.W.Sink.held c.pieces.sink) (g.W.Sink.faults c.pieces.sink) (g.C.Clock.moment c.pieces.clock))
+    (outside (g.R.Source.left c.take.new.source) (g.R.Source.has_ended c.take.new.source) (g.R.Source.faults c.take.new.source) (g.W.Sink.held c.drain.new.sink) (g.W.Sink.faults c.drain.new.sink) (g.C.Clock.moment c.drain.new.clock))
+    c.pieces.taken c.in-Bytes.n c.drain.new.feeder.at c.pieces.feeder.rest c.take.new.feeder.rest c.drain.new.feeder.rest c.pieces.front c.drain.new.front
+    c.pieces.invariant.progress c.in-Bytes.ensures.feeds c.in-Err.ensures.breaks c.in-Err.ensures.legal
+    (omega (arith, long, c.in-Err.ensures.place, c.in-Bytes.ensures.at, c.pieces.invariant.place))
+
+pub pieces-preserved : goal.pieces-preserved
+pieces-preserved g c =
+    let long = feeds_length c.in-Bytes.n _ _ _ _ c.in-Bytes.ensures.feeds in
+    let most = (c.in-Bytes.ensures.count c.in-Bytes.n refl).1 in
+    record {
+      progress = progress_more _
+          (outside (g.R.Source.left c.pieces.source) (g.R.Source.has_ended c.pieces.source) (g.R.Source.faults c.pieces.source) (g.W.Sink.held c.pieces.sink) (g.W.Sink.faults c.pieces.sink) (g.C.Clock.moment c.pieces.clock))
+          (outside (g.R.Source.left c.take.new.source) (g.R.Source.has_ended c.take.new.source) (g.R.Source.faults c.take.new.source) (g.W.Sink.held c.drain.new.sink) (g.W.Sink.faults c.drain.new.sink) (g.C.Clock.moment c.drain.new.clock))
+          c.pieces.taken c.in-Bytes.n c.pieces.feeder.rest c.take.new.feeder.rest c.drain.new.feeder.rest c.pieces.front c.drain.new.front
+          c.pieces.invariant.progress c.in-Bytes.ensures.feeds c.in_default.ensures.serves c.in_default.ensures.sound c.in_default.ensures.partial c.in_default.ensures.written
+          (c.in-Bytes.ensures.ended ∙ or_false _) c.in-Bytes.ensures.faults c.drain.ensures.faults;
+      place = omega (arith, long, c.drain.ensures.place, c.in-Bytes.ensures.at, c.pieces.invariant.place);
+      under = omega (arith, most);
+    }

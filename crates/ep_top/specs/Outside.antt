@@ -1,0 +1,17 @@
+-- What source, sink and clock tell at one moment of the program.
+use Rattle.std.specs.Prelude.{ℕ, Bool, List, Option}
+
+pub record Outside : Type 0 where
+  -- the bytes that the source has left, whether it has answered its end, and how often it failed
+  pub left : Option (List ℕ)
+  pub has_ended : Bool
+  pub read_faults : ℕ
+  -- the bytes that the sink holds, and how often it failed
+  pub held : Option (List ℕ)
+  pub write_faults : ℕ
+  -- the moment that the k-th next call of the clock gives
+  pub moment : ℕ → Option ℕ
+
+-- what they tell, put together
+abbrev pub outside : Option (List ℕ) → Bool → ℕ → Option (List ℕ) → ℕ → (ℕ → Option ℕ) → Outside
+outside left has_ended read_faults held write_faults moment = record { left = left; has_ended = has_ended; read_faults = read_faults; held = held; write_faults = write_faults; moment = moment }

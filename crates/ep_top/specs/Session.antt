@@ -1,0 +1,160 @@
+-- What a session does: the bytes it takes, the frames it serves, the history, what it writes, and how it ends.
+use Rattle.std.specs.Prelude.{◌≡◌, ◌≢◌, ◌⊎◌, ℕ, ◌+◌, ◌^◌, ◌<◌, ◌≤◌, Bool, true, false, List, [], ◌∷◌, ◌++◌, length, map, Option, Some, None, codes}
+use Rattle.std.specs.List.{flat_map}
+use Rattle.ep_model.specs.World.{World}
+use Rattle.ep_model.specs.History.{IsLegal}
+use Rattle.ep_model.specs.declared.data.EventData.{EventData}
+use Rattle.ep_model.specs.declared.data.EventData.TheVariants.{Opened}
+use Rattle.ep_edge.specs.Edge.{Takes, Rose, IsEmptied, Appends}
+use Rattle.mcbp_frame.specs.Division.{Divides, IsPartial}
+use Rattle.mcbp_frame.specs.declared.feeder.FeederData.{FeederData}
+use Rattle.ep_top.specs.declared.end.End.{End}
+use Rattle.ep_top.specs.declared.end.End.TheVariants as ends
+use Rattle.ep_top.specs.declared.front.Front.{Front}
+use Rattle.ep_top.specs.declared.session.TheConstants.{MAX_TAKEN}
+use Rattle.ep_top.specs.Exchange.{Exchange, event_of, text_of, AreMoments}
+use Rattle.ep_top.specs.Front.{start, IsSound}
+use Rattle.ep_top.specs.Outside.{Outside}
+use Rattle.ep_top.specs.Stand.{Stand, stand, bytes_of, Serves, Writes, IsFaulty}
+
+-- the source answered its end after fewer bytes than a session takes, and nothing was left
+pub record HasEnded (now : Outside) (taken : List ℕ) : Type 0 where
+  pub ended : now.has_ended ≡ true
+  pub emptied : IsEmptied now.left
+  pub under : length taken < MAX_TAKEN
+
+-- the rest may become a frame, and the source hasn't ended since
+pub record MayGoOn (before now : Outside) (rest : List ℕ) : Type 0 where
+  pub partial : IsPartial rest
+  pub going : now.has_ended ≡ before.has_ended
+
+-- the end is one that may come between a frame and its answer, so that later frames weren't served
+abbrev pub is_cut : End → Bool
+is_cut ends.BadWords = false
+is_cut ends.NoMemory = true
+is_cut (ends.Torn at) = false
+is_cut ends.Limit = false
+is_cut ends.ReadFault = false
+is_cut ends.WriteFault = true
+is_cut ends.Closed = false
+
+-- When each end comes, by the bytes taken and by what of them is no frame. One end excludes the others, but
+-- that want of memory is free, and that a fault of writing comes in place of another.
+abbrev pub Comes : Outside → Outside → List ℕ → List ℕ → End → Type 0
+Comes before now taken rest ends.BadWords = taken ≡ []
+Comes before now taken rest ends.NoMemory = Unit {0}
+Comes before now taken rest (ends.Torn at) = (IsFaulty rest ⊎ (HasEnded now taken × IsPartial rest × (rest ≢ []))) × (at + length rest ≡ length taken)
+Comes before now taken rest ends.Limit = MayGoOn before now rest × (length taken ≡ MAX_TAKEN)
+Comes before now taken rest ends.ReadFault = MayGoOn before now rest × (length taken < MAX_TAKEN) × Rose before.read_faults now.read_faults
+Comes before now taken rest ends.WriteFault = Rose before.write_faults now.write_faults
+Comes before now taken rest ends.Closed = HasEnded now taken × (rest ≡ [])
+
+-- The history: it opens, and then has the one event of each frame that is a call. Before it opens there is none.
+abbrev pub IsNoted : End → List EventData → List Exchange → Type 0
+IsNoted ends.BadWords history served = (history ≡ []) × (served ≡ [])
+IsNoted ends.NoMemory history served = ((history ≡ []) × (served ≡ [])) ⊎ (history ≡ Opened ∷ flat_map event_of served)
+IsNoted (ends.Torn at) history served = history ≡ Opened ∷ flat_map event_of served
+IsNoted ends.Limit history served = history ≡ Opened ∷ flat_map event_of served
+IsNoted ends.ReadFault history served = history ≡ Opened ∷ flat_map event_of served
+IsNoted ends.WriteFault history served = history ≡ Opened ∷ flat_map event_of served
+IsNoted ends.Closed history served = history ≡ Opened ∷ flat_map event_of served
+
+pub record IsSession (before now : Outside) (end : End) (history : List EventData) : Type 0 where
+  -- the bytes taken from the source, their one division, and what was served and written
+  pub taken : List ℕ
+  pub frames : List (List ℕ)
+  pub rest : List ℕ
+  pub served : List Exchange
+  pub unserved : List (List ℕ)
+  pub written : List ℕ
+  pub lost : List ℕ
+  pub takes : Takes before.left now.left taken
+  pub divided : Divides taken frames rest
+  -- the frames were served in order, all of them unless the end came between
+  pub in_order : frames ≡ bytes_of served ++ unserved
+  pub all : is_cut end ≡ false → unserved ≡ []
+  -- the clock was asked once for each, and once more at most for a frame whose answer the end cut off
+  pub moments : AreMoments before.moment 0 served
+  pub extra : ℕ
+  pub few : extra ≤ 1
+  pub exact : is_cut end ≡ false → extra ≡ 0
+  pub asked : (k : ℕ) → now.moment k ≡ before.moment (length served + (extra + k))
+  -- one legal history has each call once, in order, with the never-ejecting map's reply
+  pub noted : IsNoted end history served
+  pub legal : IsLegal start history
+  -- what was written is the text of the answers, or after a fault of writing a front of it
+  pub wrote : Appends before.held now.held written
+  pub texts : written ++ lost ≡ flat_map text_of served
+  pub whole : end ≢ ends.WriteFault → lost ≡ []
+  pub comes : Comes before now taken rest end
+
+-- the command line is the one word `session`
+abbrev pub IsSessionCommand : List (List ℕ) → Type 0
+IsSessionCommand words = words ≡ codes "session" ∷ []
+
+-- a session that has taken these bytes and served none of them
+abbrev pub begin : Outside → List ℕ → Stand
+begin before taken = record { rest = taken; history = Opened ∷ []; pending = []; held = before.held; moment = before.moment }
+
+-- so many bytes were taken, and each whole frame among them was answered
+pub record Progress (before now : Outside) (count : ℕ) (rest : List ℕ) (front : Front) : Type 0 where
+  pub taken : List ℕ
+  pub counted : length taken ≡ count
+  pub takes : Takes before.left now.left taken
+  pub serves : Serves (begin before taken) (stand rest front now.held now.moment)
+  pub sound : IsSound front
+  pub partial : IsPartial rest
+  pub written : front.answers.bytes ≡ []
+  pub going : now.has_ended ≡ before.has_ended
+  pub read_faults : before.read_faults ≤ now.read_faults
+  pub write_faults : before.write_faults ≤ now.write_faults
+
+-- the end at the end of input: nothing is left over, or a frame that isn't whole
+abbrev pub EndsAt : FeederData → End → Type 0
+EndsAt held ends.BadWords = ⊥
+EndsAt held ends.NoMemory = ⊥
+EndsAt held (ends.Torn at) = (held.rest ≢ []) × (at ≡ held.at)
+EndsAt held ends.Limit = ⊥
+EndsAt held ends.ReadFault = ⊥
+EndsAt held ends.WriteFault = ⊥
+EndsAt held ends.Closed = held.rest ≡ []
+
+-- a session stops so, with answers that aren't written yet
+pub record Stops (before now : Outside) (end : End) (front : Front) : Type 0 where
+  pub taken : List ℕ
+  pub rest : List ℕ
+  pub pending : List ℕ
+  pub moment : ℕ → Option ℕ
+  pub takes : Takes before.left now.left taken
+  pub serves : Serves (begin before taken) (record { rest = rest; history = front.history; pending = pending; held = now.held; moment = moment })
+  pub kept : end ≢ ends.WriteFault → pending ≡ front.answers.bytes
+  pub extra : ℕ
+  pub few : extra ≤ 1
+  pub exact : end ≢ ends.NoMemory → extra ≡ 0
+  pub asked : (k : ℕ) → now.moment k ≡ moment (extra + k)
+  pub legal : IsLegal start front.history
+  pub comes : Comes before now taken rest end
+  pub served : end ≢ ends.BadWords
+
+-- the answers that were pending as a session stopped were written
+pub record Written (end final : End) (pending : List ℕ) (old new : Option (List ℕ)) : Type 0 where
+  pub same : final ≡ end
+  pub able : end ≢ ends.WriteFault
+  pub writes : Writes pending [] old new
+
+-- some of them are lost by a fault of writing, which is then the end
+pub record Lost (end final : End) (pending : List ℕ) (old new : Option (List ℕ)) (rose : Type 0) : Type 0 where
+  pub able : end ≢ ends.WriteFault
+  pub fault : final ≡ ends.WriteFault
+  pub lost : List ℕ
+  pub writes : Writes pending lost old new
+  pub why : rose
+
+-- nothing more was written after a fault of writing
+pub record Broken (end final : End) (old new : Option (List ℕ)) : Type 0 where
+  pub before : end ≡ ends.WriteFault
+  pub fault : final ≡ ends.WriteFault
+  pub same : new ≡ old
+
+abbrev pub Finishes : End → End → List ℕ → Option (List ℕ) → Option (List ℕ) → Type 0 → Type 0
+Finishes end final pending old new rose = Written end final pending old new ⊎ (Lost end final pending old new rose ⊎ Broken end final old new)

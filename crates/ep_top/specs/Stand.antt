@@ -1,0 +1,72 @@
+-- How far a session is, and how it goes on from there.
+use Rattle.std.specs.Prelude.{◌≡◌, ◌≢◌, ◌⊎◌, ℕ, ◌+◌, ◌≤◌, List, [], ◌∷◌, ◌++◌, length, map, Option}
+use Rattle.std.specs.List.{AllByRecursion, concat, flat_map}
+use Rattle.ep_model.specs.declared.data.EventData.{EventData}
+use Rattle.ep_edge.specs.Edge.{Appends, Rose}
+use Rattle.mcbp_frame.specs.Frames.{IsFrame}
+use Rattle.mcbp_frame.specs.Division.{HasBadMagic, IsTooLong}
+use Rattle.ep_top.specs.declared.end.End.{End}
+use Rattle.ep_top.specs.declared.end.End.TheVariants as ends
+use Rattle.ep_top.specs.declared.front.Front.{Front}
+use Rattle.ep_top.specs.Exchange.{Exchange, event_of, text_of, AreMoments}
+
+-- the bytes that were taken and aren't served, the history, the answers that aren't written, what sink and clock tell
+pub record Stand : Type 0 where
+  pub rest : List ℕ
+  pub history : List EventData
+  pub pending : List ℕ
+  pub held : Option (List ℕ)
+  pub moment : ℕ → Option ℕ
+
+abbrev pub stand : List ℕ → Front → Option (List ℕ) → (ℕ → Option ℕ) → Stand
+stand rest front held moment = record { rest = rest; history = front.history; pending = front.answers.bytes; held = held; moment = moment }
+
+-- the bytes of these frames, one after the other
+abbrev pub bytes_of : List Exchange → List (List ℕ)
+bytes_of served = map (λ x. x.bytes) served
+
+-- Between the two, these frames of the rest were served, and so much was written.
+pub record Serves (old new : Stand) : Type 0 where
+  pub served : List Exchange
+  pub written : List ℕ
+  pub rest : old.rest ≡ concat (bytes_of served) ++ new.rest
+  pub each : AllByRecursion IsFrame (bytes_of served)
+  pub noted : new.history ≡ old.history ++ flat_map event_of served
+  pub texts : written ++ new.pending ≡ old.pending ++ flat_map text_of served
+  pub wrote : Appends old.held new.held written
+  pub moments : AreMoments old.moment 0 served
+  pub asked : (k : ℕ) → new.moment k ≡ old.moment (length served + k)
+
+-- a front of the pending answers was written, and the others are pending still
+pub record Writes (pending left : List ℕ) (old new : Option (List ℕ)) : Type 0 where
+  pub written : List ℕ
+  pub parts : pending ≡ written ++ left
+  pub wrote : Appends old new written
+
+-- no frame can begin so
+abbrev pub IsFaulty : List ℕ → Type 0
+IsFaulty rest = HasBadMagic rest ⊎ IsTooLong rest
+
+-- why serving stopped: want of memory, a fault of writing, or what stands at the place `at`
+abbrev pub HasStopped : End → List ℕ → List ℕ → ℕ → Type 0 → Type 0
+HasStopped ends.BadWords rest kept at rose = ⊥
+HasStopped ends.NoMemory rest kept at rose = Unit {0}
+HasStopped (ends.Torn place) rest kept at rose = IsFaulty rest × (rest ≡ kept) × (place ≡ at)
+HasStopped ends.Limit rest kept at rose = ⊥
+HasStopped ends.ReadFault rest kept at rose = ⊥
+HasStopped ends.WriteFault rest kept at rose = rose
+HasStopped ends.Closed rest kept at rose = ⊥
+
+-- Serving stopped behind the last frame that was answered. After want of memory the clock may have been asked for
+-- one frame more, and after a fault of writing some of the pending answers are lost.
+pub record Breaks (end : End) (old new : Stand) (at : ℕ) (rose : Type 0) : Type 0 where
+  pub rest : List ℕ
+  pub pending : List ℕ
+  pub moment : ℕ → Option ℕ
+  pub serves : Serves old (record { rest = rest; history = new.history; pending = pending; held = new.held; moment = moment })
+  pub kept : end ≢ ends.WriteFault → pending ≡ new.pending
+  pub extra : ℕ
+  pub few : extra ≤ 1
+  pub exact : end ≢ ends.NoMemory → extra ≡ 0
+  pub asked : (k : ℕ) → new.moment k ≡ moment (extra + k)
+  pub why : HasStopped end rest new.rest at rose

@@ -1,0 +1,12 @@
+//! The top call of the program: a whole session from bytes to bytes, with its history.
+#![tactic(auto)]
+
+mod end;
+mod front;
+mod history;
+mod request;
+mod session;
+
+pub use end::End;
+pub use history::History;
+pub use session::{MAX_TAKEN, SessionEnd, run_session};

@@ -1,0 +1,275 @@
+// The session: bytes in, answers out, and the history of what was answered.
+ghost use Rattle.std.specs.Prelude.{◌≡◌, ◌≢◌, ◌||◌, ◌+◌, ◌<◌, ◌≤◌, ◌^◌, ◌++◌, ◌↔◌, ℕ, List, [], length, map, true, false, string_bytes, OnOk, OnErr, IfOk, IfErr};
+ghost use Rattle.ep_edge.specs.Edge.{Rose, IsEmptied, is_end};
+ghost use Rattle.ep_model.specs.History.{IsLegal};
+ghost use Rattle.mcbp_frame.specs.Division.{IsPartial};
+ghost use Rattle.ep_top.specs.Front.{start, IsSound, IsFresh};
+ghost use Rattle.ep_top.specs.Outside.{outside};
+ghost use Rattle.ep_top.specs.Stand.{stand, Serves, Breaks};
+ghost use Rattle.ep_top.specs.Session.{IsSession, IsSessionCommand, Stops, EndsAt, Finishes};
+ghost use Rattle.ep_top.specs.Piece.{count_of, Feeds};
+
+use crate::end::End;
+use crate::front::{Front, flush, make_room};
+use crate::history::History;
+use ep_edge::{Clock, Got, Put, Sink, Source};
+use ep_model::{NoMemory, Out};
+use mcbp_frame::{Feeder, Next};
+use std::alloc::Global;
+
+/// How many bytes one session takes at most.
+pub const MAX_TAKEN: u64 = 0x100_0000_0000;
+
+/// How many bytes are read at once at most.
+pub const PIECE: usize = 65_536;
+
+/// How a session ended, and the history of the vBucket that it served.
+#[derive(Drop)]
+pub struct SessionEnd {
+    pub end: End,
+    pub history: History,
+}
+
+// Answers the next frame that was fed, where there is one: false where there is none.
+fn serve_next<W: Sink, C: Clock>(
+    feeder: &mut Feeder,
+    front: &mut Front,
+    sink: &mut W,
+    clock: &mut C,
+) -> Result<bool, End>
+    requires place { feeder.old.at + length feeder.old.rest < 2 ^ 64 }
+    requires sound { IsSound front.old }
+
+    ensures serves { OnOk result (Serves (stand feeder.old.rest front.old (W.held sink.old) (C.moment clock.old)) (stand feeder.new.rest front.new (W.held sink.new) (C.moment clock.new))) }
+    ensures sound { OnOk result (IsSound front.new) }
+    ensures less { result ≡ Ok true → length feeder.new.rest < length feeder.old.rest }
+    ensures partial { result ≡ Ok false → IsPartial feeder.new.rest }
+
+    ensures breaks { IfErr result (λ end. Breaks end (stand feeder.old.rest front.old (W.held sink.old) (C.moment clock.old)) (stand feeder.new.rest front.new (W.held sink.new) (C.moment clock.new)) feeder.new.at (Rose (W.faults sink.old) (W.faults sink.new))) }
+    ensures legal { OnErr result (IsLegal start front.new.history) }
+
+    ensures place { feeder.new.at + length feeder.new.rest ≡ feeder.old.at + length feeder.old.rest }
+    ensures faults { W.faults sink.old ≤ W.faults sink.new }
+{
+    let Put::Done = make_room(&mut front.answers, sink) else {
+        return Err(End::WriteFault);
+    };
+    match feeder.next() {
+        Next::Frame(frame) => match front.serve(&frame, clock) {
+            Ok(()) => Ok(true),
+            Err(NoMemory) => Err(End::NoMemory),
+        },
+        Next::Need => Ok(false),
+        Next::BadMagic { at } => Err(End::Torn { at }),
+        Next::TooLong { at } => Err(End::Torn { at }),
+    }
+}
+
+// Answers each whole frame that was fed, and writes the answers.
+fn drain<W: Sink, C: Clock>(
+    feeder: &mut Feeder,
+    front: &mut Front,
+    sink: &mut W,
+    clock: &mut C,
+) -> Result<(), End>
+    requires place { feeder.old.at + length feeder.old.rest < 2 ^ 64 }
+    requires sound { IsSound front.old }
+
+    ensures serves { OnOk result (Serves (stand feeder.old.rest front.old (W.held sink.old) (C.moment clock.old)) (stand feeder.new.rest front.new (W.held sink.new) (C.moment clock.new))) }
+    ensures sound { OnOk result (IsSound front.new) }
+    ensures partial { OnOk result (IsPartial feeder.new.rest) }
+    ensures written { OnOk result (front.new.answers.bytes ≡ []) }
+
+    ensures breaks { IfErr result (λ end. Breaks end (stand feeder.old.rest front.old (W.held sink.old) (C.moment clock.old)) (stand feeder.new.rest front.new (W.held sink.new) (C.moment clock.new)) feeder.new.at (Rose (W.faults sink.old) (W.faults sink.new))) }
+    ensures legal { OnErr result (IsLegal start front.new.history) }
+
+    ensures place { feeder.new.at + length feeder.new.rest ≡ feeder.old.at + length feeder.old.rest }
+    ensures faults { W.faults sink.old ≤ W.faults sink.new }
+{
+    'frames: loop {
+        match serve_next(feeder, front, sink, clock) {
+            Ok(true) => {}
+            Ok(false) => break,
+            Err(end) => return Err(end),
+        }
+    }
+    match flush(&mut front.answers, sink) {
+        Put::Done => Ok(()),
+        Put::Failed => Err(End::WriteFault),
+    }
+}
+
+// Reads a piece of at most `limit` bytes, and feeds it.
+fn take<R: Source>(feeder: &mut Feeder, piece: &mut [u8], limit: u64, source: &mut R) -> Got
+    requires room { length piece.old ≡ PIECE }
+    requires partial { IsPartial feeder.old.rest }
+    requires limit { 0 < limit }
+    requires place { feeder.old.at + length feeder.old.rest + limit < 2 ^ 64 }
+
+    ensures feeds { Feeds result feeder.old.rest feeder.new.rest (R.left source.old) (R.left source.new) }
+    ensures at { feeder.new.at ≡ feeder.old.at }
+    ensures count { (n : ℕ) → result ≡ Got.Bytes n → (0 < n) × (n ≤ limit) }
+    ensures ended { R.has_ended source.new ≡ (R.has_ended source.old || is_end result) }
+    ensures end { result ≡ Got.End → IsEmptied (R.left source.new) }
+    ensures failed { result ≡ Got.Failed → Rose (R.faults source.old) (R.faults source.new) }
+    ensures faults { R.faults source.old ≤ R.faults source.new }
+{
+    let most = limit.min(PIECE as u64) as usize;
+    let got = source.read(&mut piece[..most]);
+    if let Got::Bytes(n) = got {
+        feeder.feed(&piece[..n]);
+    }
+    got
+}
+
+// How a session ends at the end of its input.
+fn end_of_input(feeder: &Feeder) -> End
+    ensures { EndsAt feeder.now result }
+{
+    if feeder.rest() == 0 {
+        End::Closed
+    } else {
+        End::Torn { at: feeder.at() }
+    }
+}
+
+// Takes the stream piece by piece, and answers its frames.
+fn serve_stream<R: Source, W: Sink, C: Clock>(
+    feeder: &mut Feeder,
+    front: &mut Front,
+    piece: &mut [u8],
+    source: &mut R,
+    sink: &mut W,
+    clock: &mut C,
+) -> End
+    requires piece { length piece.old ≡ PIECE }
+    requires rest { feeder.old.rest ≡ [] }
+    requires at { feeder.old.at ≡ 0 }
+    requires fresh { IsFresh front.old }
+    requires sound { IsSound front.old }
+
+    ensures stops { Stops (outside (R.left source.old) (R.has_ended source.old) (R.faults source.old) (W.held sink.old) (W.faults sink.old) (C.moment clock.old))
+        (outside (R.left source.new) (R.has_ended source.new) (R.faults source.new) (W.held sink.new) (W.faults sink.new) (C.moment clock.new)) result front.new }
+    ensures faults { W.faults sink.old ≤ W.faults sink.new }
+{
+    let mut taken: u64 = 0;
+    'pieces: while taken < MAX_TAKEN {
+        match take(feeder, piece, MAX_TAKEN - taken, source) {
+            Got::Bytes(n) => {
+                taken += n as u64;
+                if let Err(end) = drain(feeder, front, sink, clock) {
+                    return end;
+                }
+            }
+            Got::End => return end_of_input(feeder),
+            Got::Failed => return End::ReadFault,
+        }
+    }
+    End::Limit
+}
+
+// Writes what is pending as a session ends, unless a fault of writing ended it.
+fn finish<W: Sink>(end: End, answers: &mut Out, sink: &mut W) -> End
+    ensures finishes { Finishes end result answers.old.bytes (W.held sink.old) (W.held sink.new) (Rose (W.faults sink.old) (W.faults sink.new)) }
+    ensures faults { W.faults sink.old ≤ W.faults sink.new }
+{
+    if let End::WriteFault = end {
+        return End::WriteFault;
+    }
+    match flush(answers, sink) {
+        Put::Done => end,
+        Put::Failed => End::WriteFault,
+    }
+}
+
+// Whether the command line is the one word `session`.
+fn is_session(words: &Vec<String>) -> bool
+    ensures yes { result ≡ true → IsSessionCommand (map string_bytes words.now.items) }
+    ensures no { result ≡ false → IsSessionCommand (map string_bytes words.now.items) → ⊥ }
+{
+    match words.as_slice() {
+        [word] => word.as_str() == "session",
+        _ => false,
+    }
+}
+
+// What a session holds: the stream that isn't divided yet, what answers frames, and the buffer of a read.
+#[derive(Drop)]
+struct Parts {
+    feeder: Feeder,
+    front: Front,
+    piece: Vec<u8>,
+}
+
+fn open(alloc: Global) -> Result<Parts, NoMemory>
+    ensures rest { IfOk result (λ parts. parts.feeder.rest ≡ []) }
+    ensures at { IfOk result (λ parts. parts.feeder.at ≡ 0) }
+    ensures fresh { IfOk result (λ parts. IsFresh parts.front) }
+    ensures sound { IfOk result (λ parts. IsSound parts.front) }
+    ensures piece { IfOk result (λ parts. length parts.piece.items ≡ PIECE) }
+{
+    Ok(Parts {
+        feeder: Feeder::new(alloc)?,
+        front: Front::open(alloc)?,
+        piece: vec![in alloc; 0u8; PIECE]?,
+    })
+}
+
+/// Does the whole of the command `session`: takes frames from the source, answers each, and writes the answers,
+/// all of those that it has before it reads again. The clock is asked once for each whole frame. A Get, and a Set
+/// without a CAS, of vBucket 0 are served, as calls of caller 0; every other whole frame is answered 81 (unknown
+/// command) and is no event. The history grows with the input; beside it the cost of a frame is that of the plain
+/// map.
+pub fn run_session<R: Source, W: Sink, C: Clock>(
+    alloc: Global,
+    words: &Vec<String>,
+    source: &mut R,
+    sink: &mut W,
+    clock: &mut C,
+) -> SessionEnd
+    ensures words { result.end ≡ End.BadWords → IsSessionCommand (map string_bytes words.now.items) → ⊥ }
+    ensures bad_words { (IsSessionCommand (map string_bytes words.now.items) → ⊥) → result.end ≡ End.BadWords }
+    ensures session { IsSession (outside (R.left source.old) (R.has_ended source.old) (R.faults source.old) (W.held sink.old) (W.faults sink.old) (C.moment clock.old))
+        (outside (R.left source.new) (R.has_ended source.new) (R.faults source.new) (W.held sink.new) (W.faults sink.new) (C.moment clock.new)) result.end result.history }
+{
+    if !is_session(words) {
+        return SessionEnd {
+            end: End::BadWords,
+            history: History::new(alloc),
+        };
+    }
+    match open(alloc) {
+        Ok(parts) => serve(parts, source, sink, clock),
+        Err(NoMemory) => SessionEnd {
+            end: End::NoMemory,
+            history: History::new(alloc),
+        },
+    }
+}
+
+// Serves the stream to its end.
+fn serve<R: Source, W: Sink, C: Clock>(
+    parts: Parts,
+    source: &mut R,
+    sink: &mut W,
+    clock: &mut C,
+) -> SessionEnd
+    requires rest { parts.feeder.rest ≡ [] }
+    requires at { parts.feeder.at ≡ 0 }
+    requires fresh { IsFresh parts.front }
+    requires sound { IsSound parts.front }
+    requires piece { length parts.piece.items ≡ PIECE }
+    ensures served { result.end ≡ End.BadWords → ⊥ }
+    ensures session { IsSession (outside (R.left source.old) (R.has_ended source.old) (R.faults source.old) (W.held sink.old) (W.faults sink.old) (C.moment clock.old))
+        (outside (R.left source.new) (R.has_ended source.new) (R.faults source.new) (W.held sink.new) (W.faults sink.new) (C.moment clock.new)) result.end result.history }
+{
+    let Parts {
+        mut feeder,
+        mut front,
+        mut piece,
+    } = parts;
+    let end = serve_stream(&mut feeder, &mut front, &mut piece, source, sink, clock);
+    let end = finish(end, &mut front.answers, sink);
+    let Front { history, .. } = front;
+    SessionEnd { end, history }
+}
