@@ -1,6 +1,6 @@
 -- The answers of a world whose documents stand in a plain list: what a scan of that list finds decides them.
-use Rattle.std.proofs.Common.{◌≡◌, ◌≢◌, ◌≤◌, ◌+◌, ℕ, true, false, List, [], refl, sym, ap, ◌∙◌}
-use Rattle.std.specs.Prelude.{Option, Some, None, slice_get, option_and_then}
+use Rattle.std.proofs.Common.{◌≡◌, ◌≤◌, ℕ, false, List, sym, ap, ◌∙◌}
+use Rattle.std.specs.Prelude.{Option, slice_get, option_and_then}
 use Rattle.std.specs.Option.{option_map}
 use Rattle.std.specs.FinMap.{insert}
 use Rattle.ep_model.specs.declared.call.StoreKind.TheVariants as kinds
@@ -8,7 +8,7 @@ use Rattle.ep_model.specs.declared.data.CallData.TheVariants.{Get, Store}
 use Rattle.ep_model.specs.declared.document.Document.{Document}
 use Rattle.ep_model.specs.declared.plain.TheConstants.{FIT}
 use Rattle.ep_model.specs.World.{Doc, Docs, World, live, live_of, stored_expiry, doc_blocks, put}
-use Rattle.ep_model.specs.Answer.{Answer, answer, shown, stores}
+use Rattle.ep_model.specs.Answer.{answer, shown, stores}
 use Rattle.ep_model.specs.Cas.{cas_refusal}
 use Rattle.ep_model.specs.Plain.{doc_of, docs_of, place_of, world_of}
 use Rattle.ep_model.proofs.AnswerLemmas.{refused_or, cas_of, answer_set-fits}

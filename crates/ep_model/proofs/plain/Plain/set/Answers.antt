@@ -1,7 +1,7 @@
-use Rattle.std.proofs.Common.{◌≡◌, ◌+◌, ℕ, List, Option, Some, None, sym, ap, ◌∙◌, arith, rules}
+use Rattle.std.proofs.Common.{◌≡◌, ◌+◌, ℕ, sym, ap, ◌∙◌, arith, rules}
 use Rattle.ep_model.specs.declared.call.Reply.{Reply}
-use Rattle.ep_model.specs.World.{Doc, World, stored_expiry}
-use Rattle.ep_model.specs.Answer.{Answer, answer, apply, stores}
+use Rattle.ep_model.specs.World.{stored_expiry}
+use Rattle.ep_model.specs.Answer.{Answer, apply, stores}
 use Rattle.ep_model.specs.Plain.{world_of}
 use Rattle.ep_model.proofs.AnswerLemmas.{refused_or, stored, stores-full, stores-room}
 use Rattle.ep_model.proofs.PlainAnswers.{set-answer, doc-is, world-put}
