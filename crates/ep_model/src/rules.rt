@@ -28,7 +28,8 @@ pub fn is_live(deleted: bool, expiry: u32, now: u64) -> bool
     !deleted && (expiry == 0 || seconds(now) < u64::from(expiry))
 }
 
-/// The CAS of the next mutation after the greatest one so far, at a moment in nanoseconds.
+/// The CAS of the next mutation: the moment, in nanoseconds since 1970, without its low 16 bits, or one more
+/// than the greatest CAS so far where that is greater.
 pub fn stamp(maxcas: u64, now: u64) -> u64
     requires { maxcas + 1 < 2 ^ 64 }
     ensures { result ≡ stamp (record (empty_world 0) { maxcas = maxcas }) now }
