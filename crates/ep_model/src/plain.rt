@@ -1,6 +1,6 @@
 // The plain map: the program that the definitions describe, over a flat list of documents. It is the oracle of
 // tests, and for now what a session serves.
-ghost use Rattle.std.specs.Prelude.{◌≡◌, ◌≢◌, ◌+◌, ◌≤◌, ◌<◌, ◌^◌, ◌++◌, List, ℕ, length, true, IfOk, OnOk, OnErr, option_and_then, slice_get};
+ghost use Rattle.std.specs.Prelude.{◌≡◌, ◌≢◌, ◌+◌, ◌≤◌, ◌<◌, ◌^◌, ◌++◌, length, true, IfOk, OnOk, OnErr, option_and_then, slice_get};
 ghost use Rattle.std.specs.Option.{option_map, option_copied, ForSome};
 ghost use Rattle.std.specs.FinMap as finmap;
 ghost use Rattle.ep_model.specs.declared.call.StoreKind.TheVariants as kinds;

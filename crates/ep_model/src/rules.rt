@@ -1,6 +1,6 @@
 //! The rules on numbers: moments, expiries, CAS values, sequence numbers and blocks.
-ghost use Rattle.std.specs.Prelude.{◌≡◌, ◌+◌, ◌-◌, ◌<◌, ◌≤◌, ◌^◌, length, [], List, Option};
-ghost use Rattle.ep_model.specs.World.{secs, is_live, stamp, stored_expiry, blocks, doc_blocks, last_seqno, empty_world};
+ghost use Rattle.std.specs.Prelude.{◌≡◌, ◌+◌, ◌<◌, ◌^◌, []};
+ghost use Rattle.ep_model.specs.World.{secs, is_live, stamp, stored_expiry, blocks, doc_blocks, empty_world};
 ghost use Rattle.ep_model.specs.Cas.{cas_refusal};
 
 use crate::status::{KEY_EXISTS, KEY_NOT_FOUND};

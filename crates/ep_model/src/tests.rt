@@ -1,5 +1,5 @@
 // The plain map's answers, with their numbers written out.
-ghost use Rattle.std.specs.Prelude.{◌<◌, ◌^◌, ◌≤◌, length};
+ghost use Rattle.std.specs.Prelude.{◌<◌, ◌^◌};
 ghost use Rattle.ep_model.specs.Limits.{IsKey};
 
 use crate::limits::MAX_VALUE;
