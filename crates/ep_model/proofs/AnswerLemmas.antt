@@ -1,15 +1,11 @@
 -- The answer to a Set, one case at a time.
-use Rattle.std.proofs.Common.{◌≡◌, ◌≢◌, ◌≤◌, ◌<◌, ℕ, ◌+◌, Bool, true, false, cond, List, [], refl, sym, ap, ◌∙◌, arith}
+use Rattle.std.proofs.Common.{◌≡◌, ◌≢◌, ◌≤◌, ◌<◌, ℕ, ◌+◌, true, false, cond, List, [], refl, ap, ◌∙◌, arith}
 use Rattle.std.specs.Prelude.{◌==◌, ◌||◌, nat_lt, Option, Some, None}
 use Rattle.std.specs.Option.{option_map}
 use Rattle.std.proofs.lemmas.Bool.Decides.{nat_tests}
-use Rattle.ep_model.specs.declared.call.VbState.{VbState}
-use Rattle.ep_model.specs.declared.call.VbState.TheVariants.{Active, Replica, Pending, Dead}
-use Rattle.ep_model.specs.declared.call.StoreKind.TheVariants as kinds
-use Rattle.ep_model.specs.declared.data.CallData.TheVariants.{Get, Store}
 use Rattle.ep_model.specs.declared.status.TheConstants.{SUCCESS, KEY_NOT_FOUND, KEY_EXISTS, TOO_LARGE, OUT_OF_RANGE}
 use Rattle.ep_model.specs.World.{Doc, World, live, stamp, stored_expiry, doc_blocks, last_seqno, uuid_of}
-use Rattle.ep_model.specs.Answer.{Answer, Puts, refused, stores, under_cas, answer_set, if_active, answer}
+use Rattle.ep_model.specs.Answer.{Answer, Puts, refused, stores, under_cas, answer_set}
 use Rattle.ep_model.specs.Cas.{cas_refusal}
 
 -- refused, or where no status says so done

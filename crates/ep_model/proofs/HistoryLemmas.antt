@@ -1,6 +1,6 @@
 -- What histories are made of: the world after two parts of one, and that a legal history's fronts are legal and
 -- grow by what may happen.
-use Rattle.std.proofs.Common.{◌≡◌, List, [], ◌∷◌, ◌++◌, refl, sym, ap, subst, append_assoc, append-nil}
+use Rattle.std.proofs.Common.{◌≡◌, List, [], ◌∷◌, ◌++◌, refl, sym, subst, append_assoc, append-nil}
 use Rattle.ep_model.specs.declared.data.EventData.{EventData}
 use Rattle.ep_model.specs.World.{World}
 use Rattle.ep_model.specs.History.{after, step, May, AreLegalAfter, IsLegal}

@@ -2,3 +2,4 @@ pub mod AnswerLemmas
 pub mod HistoryLemmas
 pub mod PlainAnswers
 pub mod PlainLemmas
+pub mod ReadBack

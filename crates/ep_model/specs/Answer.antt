@@ -1,9 +1,8 @@
 -- What a call is answered in a world, and what it does to it. Memory, a store and other callers have no part
 -- in this.
-use Rattle.std.specs.Prelude.{◌≡◌, ℕ, ◌+◌, ◌≤◌, Bool, true, false, nat_lt, ◌==◌, ◌||◌, if◌then◌else◌, List, [], length, Option, Some, None}
+use Rattle.std.specs.Prelude.{ℕ, ◌+◌, false, nat_lt, ◌==◌, ◌||◌, if◌then◌else◌, List, [], Option, Some, None}
 use Rattle.ep_model.specs.declared.call.VbState.{VbState}
 use Rattle.ep_model.specs.declared.call.VbState.TheVariants.{Active, Replica, Pending, Dead}
-use Rattle.ep_model.specs.declared.call.StoreKind.{StoreKind}
 use Rattle.ep_model.specs.declared.call.StoreKind.TheVariants as kinds
 use Rattle.ep_model.specs.declared.call.Reply.{Reply}
 use Rattle.ep_model.specs.declared.data.CallData.{CallData}

@@ -1,5 +1,5 @@
 -- By which status a CAS is refused.
-use Rattle.std.specs.Prelude.{◌≡◌, ℕ, ◌==◌, ◌||◌, if◌then◌else◌, Option, Some, None}
+use Rattle.std.specs.Prelude.{ℕ, ◌==◌, ◌||◌, if◌then◌else◌, Option, Some, None}
 use Rattle.ep_model.specs.declared.status.TheConstants.{KEY_NOT_FOUND, KEY_EXISTS}
 
 -- the status by which a request's CAS is refused beside that of the live document, if it is

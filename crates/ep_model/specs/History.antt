@@ -1,6 +1,6 @@
 -- Histories of one vBucket: lists of events after a start. Which events may stand where, and the world that
 -- they leave.
-use Rattle.std.specs.Prelude.{◌≡◌, ℕ, ◌+◌, Bool, true, false, List, [], ◌∷◌, ◌++◌}
+use Rattle.std.specs.Prelude.{◌≡◌, ℕ, ◌+◌, true, false, List, [], ◌∷◌, ◌++◌}
 use Rattle.ep_model.specs.declared.call.Call.{Call}
 use Rattle.ep_model.specs.declared.call.Call.TheVariants as calls
 use Rattle.ep_model.specs.declared.event.Event.{Event}
@@ -10,7 +10,7 @@ use Rattle.ep_model.specs.declared.data.CallData.TheVariants.{Get, Store, Join, 
 use Rattle.ep_model.specs.declared.data.EventData.{EventData}
 use Rattle.ep_model.specs.declared.data.EventData.TheVariants.{Called, Refused, Expired, Persisted, Marked, Asked, ReadFailed, Opened}
 use Rattle.ep_model.specs.World.{Doc, World, stamp, put}
-use Rattle.ep_model.specs.Answer.{Answer, answer, apply}
+use Rattle.ep_model.specs.Answer.{answer, apply}
 
 -- a call and an event without where their bytes lie
 abbrev pub call_data : Call → CallData

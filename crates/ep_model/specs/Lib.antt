@@ -4,4 +4,5 @@ pub mod Answer
 pub mod History
 pub mod Cas
 pub mod Codes
+pub mod Laws
 pub mod Plain

@@ -7,6 +7,7 @@ mod config;
 mod data;
 mod document;
 mod event;
+pub mod laws;
 pub mod limits;
 mod memory;
 mod out;
@@ -21,3 +22,6 @@ pub use event::{Busy, Cause, Event, PartName, Phase, Ticket};
 pub use memory::NoMemory;
 pub use out::Out;
 pub use plain::Plain;
+
+#[cfg(test)]
+mod tests;

@@ -1,13 +1,13 @@
 // The plain map: the program that the definitions describe, over a flat list of documents. It is the oracle of
 // tests, and for now what a session serves.
-ghost use Rattle.std.specs.Prelude.{◌≡◌, ◌+◌, ◌≤◌, ◌<◌, ◌^◌, ◌++◌, List, ℕ, length, true, IfOk, OnOk, OnErr, option_and_then, slice_get};
+ghost use Rattle.std.specs.Prelude.{◌≡◌, ◌≢◌, ◌+◌, ◌≤◌, ◌<◌, ◌^◌, ◌++◌, length, true, IfOk, OnOk, OnErr, option_and_then, slice_get};
 ghost use Rattle.std.specs.Option.{option_map, option_copied, ForSome};
 ghost use Rattle.std.specs.FinMap as finmap;
 ghost use Rattle.ep_model.specs.declared.call.StoreKind.TheVariants as kinds;
 ghost use Rattle.ep_model.specs.declared.data.CallData.TheVariants.{Get, Store};
 ghost use Rattle.ep_model.specs.World.{empty_world, live_of};
 ghost use Rattle.ep_model.specs.Limits.{IsWithin, IsValue};
-ghost use Rattle.ep_model.specs.Answer.{answer, apply};
+ghost use Rattle.ep_model.specs.Answer.{Nothing, answer, apply};
 ghost use Rattle.ep_model.specs.History.{call_data};
 ghost use Rattle.ep_model.specs.Plain.{doc_of, docs_of, place_of};
 
@@ -67,6 +67,9 @@ impl Plain {
         ensures value { OnOk result (value.new.bytes ≡ value.old.bytes ++ (answer self.old (call_data call.now) now).value) }
         ensures world { OnOk result (self.new ≡ apply self.old (answer self.old (call_data call.now) now).effect) }
         ensures err { OnErr result ((self.new ≡ self.old) × (value.new ≡ value.old)) }
+
+        // Memory is wanting only where something is to be kept.
+        ensures memory { OnErr result ((answer self.old (call_data call.now) now).effect ≢ Nothing) }
         ensures room { value.new.spare + length value.new.bytes ≡ value.old.spare + length value.old.bytes }
     {
         match *call {
@@ -128,6 +131,7 @@ impl Plain {
         ensures reply { IfOk result (λ reply. reply ≡ (answer self.old (Store kinds.Set key.now value.now flags expiration cas) now).reply) }
         ensures world { OnOk result (self.new ≡ apply self.old (answer self.old (Store kinds.Set key.now value.now flags expiration cas) now).effect) }
         ensures err { OnErr result (self.new ≡ self.old) }
+        ensures memory { OnErr result ((answer self.old (Store kinds.Set key.now value.now flags expiration cas) now).effect ≢ Nothing) }
     {
         let high = self.high;
         if rules::document_blocks(key, value) > FIT as usize {

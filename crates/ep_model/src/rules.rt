@@ -1,6 +1,6 @@
 //! The rules on numbers: moments, expiries, CAS values, sequence numbers and blocks.
-ghost use Rattle.std.specs.Prelude.{◌≡◌, ◌+◌, ◌-◌, ◌<◌, ◌≤◌, ◌^◌, length, [], List, Option};
-ghost use Rattle.ep_model.specs.World.{secs, is_live, stamp, stored_expiry, blocks, doc_blocks, last_seqno, empty_world};
+ghost use Rattle.std.specs.Prelude.{◌≡◌, ◌+◌, ◌<◌, ◌^◌, []};
+ghost use Rattle.ep_model.specs.World.{secs, is_live, stamp, stored_expiry, blocks, doc_blocks, empty_world};
 ghost use Rattle.ep_model.specs.Cas.{cas_refusal};
 
 use crate::status::{KEY_EXISTS, KEY_NOT_FOUND};
@@ -28,7 +28,8 @@ pub fn is_live(deleted: bool, expiry: u32, now: u64) -> bool
     !deleted && (expiry == 0 || seconds(now) < u64::from(expiry))
 }
 
-/// The CAS of the next mutation after the greatest one so far, at a moment in nanoseconds.
+/// The CAS of the next mutation: the moment, in nanoseconds since 1970, without its low 16 bits, or one more
+/// than the greatest CAS so far where that is greater.
 pub fn stamp(maxcas: u64, now: u64) -> u64
     requires { maxcas + 1 < 2 ^ 64 }
     ensures { result ≡ stamp (record (empty_world 0) { maxcas = maxcas }) now }

@@ -1,4 +1,4 @@
-use Rattle.std.proofs.Common.{◌≡◌, ◌<◌, rules, length, sym, ap, ◌∙◌, arith}
+use Rattle.std.proofs.Common.{◌<◌, rules, length, sym, ap, ◌∙◌}
 use Rattle.ep_model.specs.Plain.{docs_of}
 use Rattle.ep_model.proofs.PlainLemmas.{place-within, put-place, put-end}
 use Rattle.ep_model.proofs.plain.put.Goals as goal

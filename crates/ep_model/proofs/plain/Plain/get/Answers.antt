@@ -1,8 +1,6 @@
-use Rattle.std.proofs.Common.{◌≡◌, ◌++◌, ℕ, List, Option, Some, None, sym, ap, ◌∙◌, append-nil}
+use Rattle.std.proofs.Common.{◌++◌, sym, ap, ◌∙◌, append-nil}
 use Rattle.std.specs.Option.{option_map, option_copied}
-use Rattle.ep_model.specs.declared.data.CallData.TheVariants.{Get}
-use Rattle.ep_model.specs.World.{Doc}
-use Rattle.ep_model.specs.Answer.{Answer, answer, shown}
+use Rattle.ep_model.specs.Answer.{Answer, shown}
 use Rattle.ep_model.specs.Plain.{doc_of}
 use Rattle.ep_model.proofs.PlainAnswers.{get-answer}
 use Rattle.ep_model.proofs.plain.Plain.get.Goals as goal

@@ -1,0 +1,45 @@
+-- Laws of histories and of answers.
+use Rattle.std.specs.Prelude.{◌≡◌, ◌≢◌, ◌<◌, ◌⊎◌, ℕ, true, List, [], ◌∷◌, ◌++◌}
+use Rattle.ep_model.specs.declared.call.VbState.TheVariants.{Active}
+use Rattle.ep_model.specs.declared.call.StoreKind.TheVariants as kinds
+use Rattle.ep_model.specs.declared.data.CallData.TheVariants.{Get, Store}
+use Rattle.ep_model.specs.declared.data.EventData.{EventData}
+use Rattle.ep_model.specs.declared.status.TheConstants.{SUCCESS}
+use Rattle.ep_model.specs.World.{World, live, secs, stored_expiry}
+use Rattle.ep_model.specs.Answer.{Answer, Nothing, answer, apply}
+use Rattle.ep_model.specs.History.{May, IsLegal}
+
+-- a legal history stays legal with one more event that may happen
+abbrev pub LegalHistoriesGrow : Type 0
+LegalHistoriesGrow = (start : World) (history : List EventData) (event : EventData) → IsLegal start history → May start history event → IsLegal start (history ++ event ∷ [])
+
+-- the front of a legal history is legal
+abbrev pub FrontsAreLegal : Type 0
+FrontsAreLegal = (start : World) (front rest : List EventData) → IsLegal start (front ++ rest) → IsLegal start front
+
+-- what a Get is answered that finds this value
+abbrev pub found : List ℕ → ℕ → ℕ → Answer
+found value flags cas = record { reply = record { status = SUCCESS; cas = cas; flags = flags; uuid = 0; seqno = 0 }; value = value; effect = Nothing }
+
+-- this world has the value under the key until it expires
+abbrev pub IsReadBack : World → List ℕ → List ℕ → ℕ → ℕ → ℕ → Type 0
+IsReadBack w key value flags expiry cas = (later : ℕ) → (expiry ≡ 0) ⊎ (secs later < expiry) → answer w (Get key) later ≡ found value flags cas
+
+-- under each other key a world has at each moment what another has
+abbrev pub KeepsOthers : World → World → List ℕ → Type 0
+KeepsOthers old new key = (other : List ℕ) (moment : ℕ) → other ≢ key → live new other moment ≡ live old other moment
+
+-- what a successful Set stores is read back under the CAS of its reply
+abbrev pub SetIsReadBack : Type 0
+SetIsReadBack =
+    (w : World) (key value : List ℕ) (flags expiration cas now : ℕ) → w.opened ≡ true → w.state ≡ Active →
+    (answer w (Store kinds.Set key value flags expiration cas) now).reply.status ≡ SUCCESS →
+    let given = answer w (Store kinds.Set key value flags expiration cas) now in
+    IsReadBack (apply w given.effect) key value flags (stored_expiry expiration now) given.reply.cas
+
+-- a successful Set leaves every other key as it was
+abbrev pub SetKeepsOthers : Type 0
+SetKeepsOthers =
+    (w : World) (key value : List ℕ) (flags expiration cas now : ℕ) → w.opened ≡ true → w.state ≡ Active →
+    (answer w (Store kinds.Set key value flags expiration cas) now).reply.status ≡ SUCCESS →
+    KeepsOthers w (apply w (answer w (Store kinds.Set key value flags expiration cas) now).effect) key
