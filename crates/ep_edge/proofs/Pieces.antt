@@ -1,5 +1,5 @@
 -- What a read takes and a write puts, over lists.
-use Rattle.std.proofs.Common.{◌≡◌, ◌<◌, ◌≤◌, ℕ, ◌+◌, ◌-◌, min, Bool, true, false, ◌||◌, List, [], ◌∷◌, ◌++◌, length, take, drop, Option, Some, refl, sym, ap, ◌∙◌, subst, arith, rules}
+use Rattle.std.proofs.Common.{◌≡◌, ◌≤◌, ℕ, ◌+◌, ◌-◌, min, Bool, false, ◌||◌, List, ◌++◌, length, take, drop, Option, Some, sym, ap, ◌∙◌, subst}
 use Rattle.std.proofs.lemmas.List.{drop_min, drop-drop, length-drop, take_rest, take-append-drop}
 use Rattle.std.proofs.Math.Seq.{take-add}
 use Rattle.std.proofs.KnownBytes.{Appends-trans}

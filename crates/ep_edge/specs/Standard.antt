@@ -1,5 +1,5 @@
 -- What an answer leaves of an adapter over std's readers and writers.
-use Rattle.std.specs.Prelude.{ℕ, Bool, true}
+use Rattle.std.specs.Prelude.{true}
 use Rattle.ep_edge.specs.declared.data.ReaderData.{ReaderData}
 use Rattle.ep_edge.specs.declared.data.WriterData.{WriterData}
 use Rattle.ep_edge.specs.declared.source.Got.{Got}

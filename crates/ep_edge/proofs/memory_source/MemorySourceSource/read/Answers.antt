@@ -1,5 +1,4 @@
-use Rattle.std.proofs.Common.{rules, ◌≡◌, length, arith, refl}
-use Rattle.std.proofs.lemmas.Grind.{common_steps}
+use Rattle.std.proofs.Common.{rules, length, arith}
 use Rattle.ep_edge.proofs.Pieces.{after_piece, drop-used}
 use Rattle.ep_edge.proofs.memory_source.MemorySourceSource.read.Goals as goal
 
