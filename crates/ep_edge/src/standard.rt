@@ -1,8 +1,9 @@
-// The traits over std's readers, writers and clock. None of these tells its bytes or its moments.
-ghost use Rattle.std.specs.Prelude.{◌≡◌, ◌<◌, ◌≤◌, ◌^◌, ◌-◌, ◌+◌, ◌||◌, ◌++◌, ℕ, List, true, false, length, take, IfOk, IfSome, OnOk, OnErr};
+// The traits over std's readers, writers and clock. None of these tells its bytes or its moments, so the clauses
+// of the traits that speak of told ones are not repeated.
+ghost use Rattle.std.specs.Prelude.{◌≡◌, ◌<◌, ◌≤◌, ◌^◌, ◌||◌, ℕ, true, false, length, take, IfSome, OnOk, OnErr};
 ghost use Rattle.std.specs.Io.{ReadsAtMost, WritesAtMost};
 ghost use Rattle.std.specs.Io.KnownBytes.{ReadConsumes, WriteAppends, Appends as AppendsKnown};
-ghost use Rattle.ep_edge.specs.Edge.{Takes, Rose, IsEmptied, Appends, AppendsFront, bytes_read, is_end};
+ghost use Rattle.ep_edge.specs.Edge.{Rose, AppendsFront, is_end};
 ghost use Rattle.ep_edge.specs.Standard.{after_got, after_put};
 
 use crate::{Clock, Got, Put, Sink, Source};
