@@ -13,6 +13,10 @@ use Rattle.ep_edge.specs.declared.sink.Put.TheVariants as put
 abbrev pub raised : ℕ → ℕ
 raised faults = min (faults + 1) (2 ^ 64 - 1)
 
+-- these calls fail, and none was made yet
+abbrev pub none_made : List ℕ → FailuresData
+none_made numbers = record { numbers = numbers; next = 0 }
+
 -- whether the next call fails
 abbrev pub is_failing : FailuresData → Bool
 is_failing failures = list_any (λ number. number == failures.next) failures.numbers

@@ -120,7 +120,8 @@ impl<W: Write + Drop> Sink for WriterSink<W> {
     /// As many writes of the writer as it needs to take the bytes, and a flush.
     fn write(&mut self, bytes: &[u8]) -> Put
         requires { 0 < length bytes.now }
-        ensures failed { result ≡ Put.Failed → AppendsFront None None bytes.now × Rose self.old.faults self.new.faults }
+        ensures failed { result ≡ Put.Failed → AppendsFront None None bytes.now
+            × Rose self.old.faults self.new.faults }
         ensures faults { self.old.faults ≤ self.new.faults }
         ensures after { self.new ≡ after_put self.old result }
     {
@@ -221,7 +222,8 @@ fn write_patiently<W: Write>(writer: &mut W, bytes: &[u8]) -> io::Result<usize>
 /// Writes all the bytes and flushes. After an error the writer may have taken some of them, from the first on.
 fn write_whole<W: Write>(writer: &mut W, bytes: &[u8]) -> io::Result<()>
     ensures ok { OnOk result (AppendsKnown (W.contents writer.old) (W.contents writer.new) bytes.now) }
-    ensures err { OnErr result ((count : ℕ) × (count ≤ length bytes.now) × AppendsKnown (W.contents writer.old) (W.contents writer.new) (take count bytes.now)) }
+    ensures err { OnErr result ((count : ℕ) × (count ≤ length bytes.now)
+        × AppendsKnown (W.contents writer.old) (W.contents writer.new) (take count bytes.now)) }
 {
     let mut written = 0;
     while written < bytes.len() {
