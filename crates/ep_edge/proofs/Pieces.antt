@@ -1,6 +1,6 @@
 -- What a read takes and a write puts, over lists.
-use Rattle.std.proofs.Common.{◌≡◌, ◌<◌, ◌≤◌, ℕ, ◌+◌, ◌-◌, min, Bool, true, false, ◌||◌, List, [], ◌∷◌, ◌++◌, length, take, drop, Option, Some, refl, sym, ap, ◌∙◌, subst, arith, rules}
-use Rattle.std.proofs.lemmas.List.{drop_min, drop-drop, length-drop, take_rest, take-append-drop}
+use Rattle.std.proofs.Common.{◌≡◌, ◌≤◌, ℕ, ◌+◌, ◌-◌, min, Bool, false, ◌||◌, List, ◌++◌, length, take, drop, Option, Some, sym, ap, ◌∙◌, subst}
+use Rattle.std.proofs.lemmas.List.{drop_min, drop-drop, take_rest, take-append-drop}
 use Rattle.std.proofs.Math.Seq.{take-add}
 use Rattle.std.proofs.KnownBytes.{Appends-trans}
 use Rattle.std.specs.Io.KnownBytes.{Appends}
@@ -9,26 +9,32 @@ use Rattle.ep_edge.specs.declared.data.FailuresData.{FailuresData}
 use Rattle.ep_edge.specs.declared.data.SourceData.{SourceData}
 use Rattle.ep_edge.specs.Memory.{is_failing, after_call, read_limit, next_piece, is_nil, after_read}
 
--- dropping what was copied drops what was asked for
-pub drop-copied : (bytes : List ℕ) (given limit count : ℕ) → count ≡ min limit (length bytes - given) → drop (given + count) bytes ≡ drop limit (drop given bytes)
-drop-copied bytes given limit count e =
-    sym (drop-drop count given bytes) ∙ ap (λ n. drop n (drop given bytes)) (e ∙ ap (λ n. min limit n) (sym (length-drop given bytes)))
-    ∙ drop_min limit (drop given bytes)
-
 -- a source after a read that gives a piece, by its fields
-pub after_piece : (source : SourceData) (room : ℕ) (left pieces : List ℕ) (failures : FailuresData) (ended : Bool) (faults : ℕ) → is_failing source.failures ≡ false → left ≡ drop (read_limit source.pieces room) source.left → pieces ≡ drop 1 source.pieces → failures ≡ after_call source.failures → ended ≡ (source.ended || is_nil (next_piece source room)) → faults ≡ source.faults → ◌≡◌ {A = SourceData} (record { left = left; pieces = pieces; failures = failures; ended = ended; faults = faults }) (after_read source room)
-after_piece source room left pieces failures ended faults good e_left e_pieces e_failures e_ended e_faults = rw (good, e_left, e_pieces, e_failures, e_ended, e_faults)
+pub after_piece : (source : SourceData) (room : ℕ) (left pieces : List ℕ) (failures : FailuresData) (ended : Bool) (faults : ℕ) →
+    is_failing source.failures ≡ false → left ≡ drop (read_limit source.pieces room) source.left →
+    pieces ≡ drop 1 source.pieces → failures ≡ after_call source.failures →
+    ended ≡ (source.ended || is_nil (next_piece source room)) → faults ≡ source.faults →
+    ◌≡◌ {A = SourceData}
+    (record { left = left; pieces = pieces; failures = failures; ended = ended; faults = faults })
+    (after_read source room)
+after_piece source room left pieces failures ended faults good e_left e_pieces e_failures e_ended e_faults =
+    rw (good, e_left, e_pieces, e_failures, e_ended, e_faults)
 
 -- a count of used pieces that stops at their number
-pub drop-used : (pieces : List ℕ) (used : ℕ) → used ≤ length pieces → drop (min (used + 1) (length pieces)) pieces ≡ drop 1 (drop used pieces)
+pub drop-used : (pieces : List ℕ) (used : ℕ) → used ≤ length pieces →
+    drop (min (used + 1) (length pieces)) pieces ≡ drop 1 (drop used pieces)
 drop-used pieces used h = drop_min (used + 1) pieces ∙ sym (drop-drop 1 used pieces)
 
 -- a front of the bytes was appended
-pub appends_front : (old new bytes : List ℕ) (count : ℕ) → new ≡ old ++ take count bytes → AppendsFront (Some old) (Some new) bytes
+pub appends_front : (old new bytes : List ℕ) (count : ℕ) → new ≡ old ++ take count bytes →
+    AppendsFront (Some old) (Some new) bytes
 appends_front old new bytes count e = (take count bytes, drop count bytes, sym (take-append-drop count bytes), ap Some e)
 
 -- two writes, the second of which goes on where the first stopped
-pub appends_more : (old middle new : Option (List ℕ)) (bytes : List ℕ) (written count : ℕ) → Appends old middle (take written bytes) → Appends middle new (take count (take (length bytes - written) (drop written bytes))) → Appends old new (take (written + count) bytes)
+pub appends_more : (old middle new : Option (List ℕ)) (bytes : List ℕ) (written count : ℕ) →
+    Appends old middle (take written bytes) →
+    Appends middle new (take count (take (length bytes - written) (drop written bytes))) →
+    Appends old new (take (written + count) bytes)
 appends_more old middle new bytes written count first second =
     subst (Appends old new) (sym (take-add written count bytes))
     (Appends-trans old middle new (take written bytes) (take count (drop written bytes)) first

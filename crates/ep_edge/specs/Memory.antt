@@ -1,5 +1,5 @@
 -- What a call on a form in memory answers and leaves.
-use Rattle.std.specs.Prelude.{◌≡◌, ℕ, ◌+◌, ◌-◌, ◌^◌, min, max, nat_lt, nat_le, ◌==◌, ◌||◌, Bool, true, false, if◌then◌else◌, List, [], ◌∷◌, ◌++◌, length, take, drop, slice_index}
+use Rattle.std.specs.Prelude.{ℕ, ◌+◌, ◌-◌, ◌^◌, min, max, nat_lt, nat_le, ◌==◌, ◌||◌, Bool, true, false, if◌then◌else◌, List, [], ◌∷◌, ◌++◌, length, take, drop, slice_index}
 use Rattle.std.specs.List.{list_any}
 use Rattle.ep_edge.specs.declared.data.FailuresData.{FailuresData}
 use Rattle.ep_edge.specs.declared.data.SourceData.{SourceData}
@@ -12,6 +12,10 @@ use Rattle.ep_edge.specs.declared.sink.Put.TheVariants as put
 -- a count of faults after one more
 abbrev pub raised : ℕ → ℕ
 raised faults = min (faults + 1) (2 ^ 64 - 1)
+
+-- these calls fail, and none was made yet
+abbrev pub none_made : List ℕ → FailuresData
+none_made numbers = record { numbers = numbers; next = 0 }
 
 -- whether the next call fails
 abbrev pub is_failing : FailuresData → Bool

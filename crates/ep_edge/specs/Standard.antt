@@ -1,5 +1,6 @@
 -- What an answer leaves of an adapter over std's readers and writers.
-use Rattle.std.specs.Prelude.{ℕ, Bool, true}
+use Rattle.std.specs.Prelude.{ℕ, ◌≤◌, true, List, length, take, Option}
+use Rattle.std.specs.Io.KnownBytes.{Appends}
 use Rattle.ep_edge.specs.declared.data.ReaderData.{ReaderData}
 use Rattle.ep_edge.specs.declared.data.WriterData.{WriterData}
 use Rattle.ep_edge.specs.declared.source.Got.{Got}
@@ -8,13 +9,17 @@ use Rattle.ep_edge.specs.declared.sink.Put.{Put}
 use Rattle.ep_edge.specs.declared.sink.Put.TheVariants as put
 use Rattle.ep_edge.specs.Memory.{raised}
 
--- a reader's source after this answer
-abbrev pub after_got : ReaderData → Got → ReaderData
-after_got reader (Bytes n) = reader
-after_got reader End = record reader { ended = true }
-after_got reader Failed = record reader { faults = raised reader.faults }
+-- known bytes grew by the first of these
+abbrev pub AppendsSome : Option (List ℕ) → Option (List ℕ) → List ℕ → Type 0
+AppendsSome old new bytes = (count : ℕ) × (count ≤ length bytes) × Appends old new (take count bytes)
 
--- a writer's sink after this answer
-abbrev pub after_put : WriterData → Put → WriterData
-after_put writer put.Done = writer
-after_put writer put.Failed = record writer { faults = raised writer.faults }
+-- a reader's source after this answer, which left it this reader
+abbrev pub after_got : {R : Type 0} → R → ReaderData R → Got → ReaderData R
+after_got reader source (Bytes n) = record source { reader = reader }
+after_got reader source End = record source { reader = reader; ended = true }
+after_got reader source Failed = record source { reader = reader; faults = raised source.faults }
+
+-- a writer's sink after this answer, which left it this writer
+abbrev pub after_put : {W : Type 0} → W → WriterData W → Put → WriterData W
+after_put writer sink put.Done = record sink { writer = writer }
+after_put writer sink put.Failed = record sink { writer = writer; faults = raised sink.faults }

@@ -30,14 +30,16 @@ pub struct ClockData {
     pub moments: LinkedList<u64>,
 }
 
-/// A `ReaderSource` as clauses see it. Its reader is left out.
-pub struct ReaderData {
+/// A `ReaderSource` as clauses see it.
+pub struct ReaderData<R> {
+    pub reader: R,
     pub ended: bool,
     pub faults: u64,
 }
 
-/// A `WriterSink` as clauses see it. Its writer is left out.
-pub struct WriterData {
+/// A `WriterSink` as clauses see it.
+pub struct WriterData<W> {
+    pub writer: W,
     pub faults: u64,
 }
 

@@ -1,6 +1,6 @@
 // Which calls of a form in memory fail.
 ghost use Rattle.std.specs.Prelude.{◌≡◌};
-ghost use Rattle.ep_edge.specs.Memory.{is_failing, after_call};
+ghost use Rattle.ep_edge.specs.Memory.{none_made, is_failing, after_call};
 
 use std::marker::Model;
 
@@ -28,7 +28,7 @@ impl Model for Failures {
 impl Failures {
     /// The calls with these numbers fail, counted from 0.
     pub(crate) fn new(numbers: Vec<u64>) -> Failures
-        ensures { result ≡ record { numbers = numbers.items; next = 0 } }
+        ensures { result ≡ none_made numbers.items }
     {
         Failures { numbers, next: 0 }
     }

@@ -11,6 +11,8 @@ mod memory_source;
 mod sink;
 mod source;
 mod standard;
+#[cfg(test)]
+mod tests;
 
 pub use clock::Clock;
 pub use data::{

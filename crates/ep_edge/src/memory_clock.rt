@@ -21,7 +21,8 @@ impl Model for MemoryClock {
 
     ghost view = { λ c. record { moments = drop c.at c.moments.items } };
 
-    ghost invariant = { λ c. (c.at ≤ length c.moments.items - 1) × All (λ moment. moment < 2 ^ 62) c.moments.items };
+    ghost invariant = { λ c. (c.at ≤ length c.moments.items - 1)
+        × All (λ moment. moment < 2 ^ 62) c.moments.items };
 }
 
 impl MemoryClock {
@@ -44,7 +45,8 @@ impl Clock for MemoryClock {
     fn now(&mut self) -> u64
         ensures bound { result < 2 ^ 62 }
         ensures told { IfSome (Some (moment_at self.old.moments 0)) (λ m. result ≡ m) }
-        ensures next { (k : ℕ) → Some (moment_at self.new.moments k) ≡ Some (moment_at self.old.moments (k + 1)) }
+        ensures next { (k : ℕ) →
+            Some (moment_at self.new.moments k) ≡ Some (moment_at self.old.moments (k + 1)) }
         ensures answer { result ≡ moment_at self.old.moments 0 }
         ensures after { self.new ≡ record { moments = later self.old.moments } }
     {

@@ -1,7 +1,7 @@
 // A sink in memory, of fixed room.
 ghost use Rattle.std.specs.Prelude.{◌≡◌, ◌<◌, ◌≤◌, [], length, IfOk};
 ghost use Rattle.ep_edge.specs.Edge.{Appends, AppendsFront, Rose};
-ghost use Rattle.ep_edge.specs.Memory.{write_answer, after_write};
+ghost use Rattle.ep_edge.specs.Memory.{none_made, write_answer, after_write};
 
 use crate::failures::Failures;
 use crate::{Put, Sink};
@@ -22,14 +22,24 @@ impl Model for MemorySink {
 
     ghost Value = { SinkData };
 
-    ghost view = { λ s. record { held = s.out.bytes; spare = s.out.spare; failures = s.failures; faults = s.faults } };
+    ghost view = { λ s. record {
+      held = s.out.bytes;
+      spare = s.out.spare;
+      failures = s.failures;
+      faults = s.faults;
+    } };
 }
 
 impl MemorySink {
     /// An empty sink for `capacity` bytes, all of whose memory is taken here. The writes with a number in
     /// `fails` fail and write nothing, counted from 0. Its cost is linear in `capacity`.
     pub fn new(alloc: Global, capacity: usize, fails: Vec<u64>) -> Result<MemorySink, NoMemory>
-        ensures { IfOk result (λ sink. sink ≡ record { held = []; spare = capacity; failures = record { numbers = fails.items; next = 0 }; faults = 0 }) }
+        ensures { IfOk result (λ sink. sink ≡ record {
+          held = [];
+          spare = capacity;
+          failures = none_made fails.items;
+          faults = 0;
+        }) }
     {
         Ok(MemorySink {
             out: Out::new(alloc, capacity)?,
@@ -57,7 +67,8 @@ impl Sink for MemorySink {
     fn write(&mut self, bytes: &[u8]) -> Put
         requires { 0 < length bytes.now }
         ensures done { result ≡ Put.Done → Appends (Some self.old.held) (Some self.new.held) bytes.now }
-        ensures failed { result ≡ Put.Failed → AppendsFront (Some self.old.held) (Some self.new.held) bytes.now × Rose self.old.faults self.new.faults }
+        ensures failed { result ≡ Put.Failed → AppendsFront (Some self.old.held) (Some self.new.held) bytes.now
+            × Rose self.old.faults self.new.faults }
         ensures faults { self.old.faults ≤ self.new.faults }
         ensures answer { result ≡ write_answer self.old bytes.now }
         ensures after { self.new ≡ after_write self.old bytes.now }

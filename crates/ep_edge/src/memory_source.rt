@@ -1,7 +1,7 @@
 // A source in memory, which tests cut and break as they like.
 ghost use Rattle.std.specs.Prelude.{◌≡◌, ◌<◌, ◌≤◌, ◌||◌, ◌+◌, ◌++◌, ℕ, true, false, length, take, drop};
 ghost use Rattle.ep_edge.specs.Edge.{Takes, Rose, IsEmptied, bytes_read, is_end};
-ghost use Rattle.ep_edge.specs.Memory.{read_limit, read_answer, read_buffer, after_read};
+ghost use Rattle.ep_edge.specs.Memory.{none_made, read_limit, read_answer, read_buffer, after_read};
 
 use crate::failures::Failures;
 use crate::{Got, Source};
@@ -27,9 +27,16 @@ impl Model for MemorySource {
 
     ghost Value = { SourceData };
 
-    ghost view = { λ s. record { left = drop s.given s.bytes.items; pieces = drop s.used s.pieces.items; failures = s.failures; ended = s.ended; faults = s.faults } };
+    ghost view = { λ s. record {
+      left = drop s.given s.bytes.items;
+      pieces = drop s.used s.pieces.items;
+      failures = s.failures;
+      ended = s.ended;
+      faults = s.faults;
+    } };
 
-    ghost invariant = { λ s. (s.given ≤ length s.bytes.items) × (s.used ≤ length s.pieces.items) × (s.ended ≡ true → drop s.given s.bytes.items ≡ []) };
+    ghost invariant = { λ s. (s.given ≤ length s.bytes.items) × (s.used ≤ length s.pieces.items)
+        × (s.ended ≡ true → drop s.given s.bytes.items ≡ []) };
 }
 
 impl MemorySource {
@@ -37,7 +44,13 @@ impl MemorySource {
     /// the n-th gives no more than `pieces[n]` bytes, where 0 counts as 1; reads beyond the list have no such
     /// bound.
     pub fn new(bytes: Vec<u8>, pieces: Vec<u32>, fails: Vec<u64>) -> MemorySource
-        ensures { result ≡ record { left = bytes.items; pieces = pieces.items; failures = record { numbers = fails.items; next = 0 }; ended = false; faults = 0 } }
+        ensures { result ≡ record {
+          left = bytes.items;
+          pieces = pieces.items;
+          failures = none_made fails.items;
+          ended = false;
+          faults = 0;
+        } }
     {
         MemorySource {
             bytes,

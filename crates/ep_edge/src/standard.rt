@@ -1,9 +1,10 @@
-// The traits over std's readers, writers and clock. None of these tells its bytes or its moments.
-ghost use Rattle.std.specs.Prelude.{◌≡◌, ◌<◌, ◌≤◌, ◌^◌, ◌-◌, ◌+◌, ◌||◌, ◌++◌, ℕ, List, true, false, length, take, IfOk, IfSome, OnOk, OnErr};
+// The traits over std's readers, writers and clock. None of these tells its bytes or its moments, so the clauses
+// of the traits that speak of told ones are not repeated.
+ghost use Rattle.std.specs.Prelude.{◌≡◌, ◌<◌, ◌≤◌, ◌^◌, ◌||◌, ℕ, true, false, length, take, IfSome, OnOk, OnErr};
 ghost use Rattle.std.specs.Io.{ReadsAtMost, WritesAtMost};
-ghost use Rattle.std.specs.Io.KnownBytes.{ReadConsumes, WriteAppends, Appends as AppendsKnown};
-ghost use Rattle.ep_edge.specs.Edge.{Takes, Rose, IsEmptied, Appends, AppendsFront, bytes_read, is_end};
-ghost use Rattle.ep_edge.specs.Standard.{after_got, after_put};
+ghost use Rattle.std.specs.Io.KnownBytes.{IsAtEnd, Consumes, ReadConsumes, WriteAppends, Appends as AppendsKnown};
+ghost use Rattle.ep_edge.specs.Edge.{Rose, AppendsFront, bytes_read, is_end};
+ghost use Rattle.ep_edge.specs.Standard.{AppendsSome, after_got, after_put};
 
 use crate::{Clock, Got, Put, Sink, Source};
 use std::io::{ErrorKind, Read, Write};
@@ -29,15 +30,15 @@ pub struct ReaderSource<R> {
 impl<R> Model for ReaderSource<R> {
     ghost use Rattle.ep_edge.specs.declared.data.ReaderData.{ReaderData};
 
-    ghost Value = { ReaderData };
+    ghost Value = { ReaderData R };
 
-    ghost view = { λ s. record { ended = s.ended; faults = s.faults } };
+    ghost view = { λ s. record { reader = s.reader; ended = s.ended; faults = s.faults } };
 }
 
 impl<R: Read + Drop> ReaderSource<R> {
     /// A source of the reader's bytes. It takes no memory.
     pub fn new(reader: R) -> ReaderSource<R>
-        ensures { result ≡ record { ended = false; faults = 0 } }
+        ensures { result ≡ record { reader = reader; ended = false; faults = 0 } }
     {
         ReaderSource {
             reader,
@@ -64,8 +65,11 @@ impl<R: Read + Drop> Source for ReaderSource<R> {
         ensures after_end { (n : ℕ) → self.old.ended ≡ true → result ≡ Got.Bytes n → ⊥ }
         ensures failed { result ≡ Got.Failed → Rose self.old.faults self.new.faults }
         ensures faults { self.old.faults ≤ self.new.faults }
-        ensures ends_for_good { self.old.ended ≡ true → result ≡ Got.End }
-        ensures after { self.new ≡ after_got self.old result }
+        ensures bytes { Consumes (R.remaining self.old.reader) (R.remaining self.new.reader)
+            (bytes_read result into.new) }
+        ensures at_end { self.old.ended ≡ false → result ≡ Got.End → IsAtEnd (R.remaining self.new.reader) }
+        ensures ends_for_good { self.old.ended ≡ true → (result ≡ Got.End) × (self.new ≡ self.old) }
+        ensures after { self.new ≡ after_got self.new.reader self.old result }
     {
         if self.ended {
             return Got::End;
@@ -95,15 +99,15 @@ pub struct WriterSink<W> {
 impl<W> Model for WriterSink<W> {
     ghost use Rattle.ep_edge.specs.declared.data.WriterData.{WriterData};
 
-    ghost Value = { WriterData };
+    ghost Value = { WriterData W };
 
-    ghost view = { λ s. record { faults = s.faults } };
+    ghost view = { λ s. record { writer = s.writer; faults = s.faults } };
 }
 
 impl<W: Write + Drop> WriterSink<W> {
     /// A sink that writes to the writer. It takes no memory.
     pub fn new(writer: W) -> WriterSink<W>
-        ensures { result ≡ record { faults = 0 } }
+        ensures { result ≡ record { writer = writer; faults = 0 } }
     {
         WriterSink { writer, faults: 0 }
     }
@@ -119,9 +123,14 @@ impl<W: Write + Drop> Sink for WriterSink<W> {
     /// As many writes of the writer as it needs to take the bytes, and a flush.
     fn write(&mut self, bytes: &[u8]) -> Put
         requires { 0 < length bytes.now }
-        ensures failed { result ≡ Put.Failed → AppendsFront None None bytes.now × Rose self.old.faults self.new.faults }
+        ensures failed { result ≡ Put.Failed → AppendsFront None None bytes.now
+            × Rose self.old.faults self.new.faults }
         ensures faults { self.old.faults ≤ self.new.faults }
-        ensures after { self.new ≡ after_put self.old result }
+        ensures written { result ≡ Put.Done →
+            AppendsKnown (W.contents self.old.writer) (W.contents self.new.writer) bytes.now }
+        ensures not_written { result ≡ Put.Failed →
+            AppendsSome (W.contents self.old.writer) (W.contents self.new.writer) bytes.now }
+        ensures after { self.new ≡ after_put self.new.writer self.old result }
     {
         match write_whole(&mut self.writer, bytes) {
             Ok(()) => Put::Done,
@@ -220,7 +229,7 @@ fn write_patiently<W: Write>(writer: &mut W, bytes: &[u8]) -> io::Result<usize>
 /// Writes all the bytes and flushes. After an error the writer may have taken some of them, from the first on.
 fn write_whole<W: Write>(writer: &mut W, bytes: &[u8]) -> io::Result<()>
     ensures ok { OnOk result (AppendsKnown (W.contents writer.old) (W.contents writer.new) bytes.now) }
-    ensures err { OnErr result ((count : ℕ) × (count ≤ length bytes.now) × AppendsKnown (W.contents writer.old) (W.contents writer.new) (take count bytes.now)) }
+    ensures err { OnErr result (AppendsSome (W.contents writer.old) (W.contents writer.new) bytes.now) }
 {
     let mut written = 0;
     while written < bytes.len() {

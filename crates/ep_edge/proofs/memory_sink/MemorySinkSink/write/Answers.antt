@@ -1,4 +1,4 @@
-use Rattle.std.proofs.Common.{◌≡◌, ◌++◌, rules, take}
+use Rattle.std.proofs.Common.{rules}
 use Rattle.ep_edge.proofs.Pieces.{appends_front}
 use Rattle.ep_edge.proofs.memory_sink.MemorySinkSink.write.Goals as goal
 
