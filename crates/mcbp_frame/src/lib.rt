@@ -9,3 +9,6 @@ mod response;
 pub use feeder::{Feeder, FeederData, Next};
 pub use frame::{Frame, FrameData, HEADER, MAX_BODY, REQUEST, RESPONSE};
 pub use response::put_response;
+
+#[cfg(test)]
+mod tests;
