@@ -1,10 +1,10 @@
 -- The frame that some bytes begin with.
-use Rattle.std.proofs.Common.{◌≡◌, ℕ, ◌+◌, ◌-◌, ◌≤◌, List, length, take, drop, slice_index, refl, sym, ◌∙◌, arith}
+use Rattle.std.proofs.Common.{◌≡◌, ℕ, ◌+◌, ◌-◌, ◌≤◌, List, length, take, drop, slice_index, refl, ◌∙◌, arith}
 use Rattle.std.proofs.lemmas.List.{drop-take, get_or-take, length-take-le}
 use Rattle.byteorder.specs.Endian.{big_number}
 use Rattle.byteorder.specs.Numbers.{big_from-take}
 use Rattle.mcbp_frame.specs.declared.frame.TheConstants.{REQUEST, HEADER, MAX_BODY}
-use Rattle.mcbp_frame.specs.Frames.{body_length, frame_length, IsFrame}
+use Rattle.mcbp_frame.specs.Frames.{body_length, IsFrame}
 
 -- a number that ends before place n reads the same among the first n bytes
 pub big_number-drop-take : (k i n : ℕ) (bytes : List ℕ) → i + k ≤ n → big_number k (drop i (take n bytes)) ≡ big_number k (drop i bytes)

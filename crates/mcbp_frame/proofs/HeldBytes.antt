@@ -1,12 +1,12 @@
 -- The bytes that a buffer holds from one place to another.
-use Rattle.std.proofs.Common.{◌≡◌, ℕ, ◌+◌, ◌-◌, ◌≤◌, List, ◌++◌, length, take, drop, refl, sym, ap, ◌∙◌, arith, length-append}
+use Rattle.std.proofs.Common.{◌≡◌, ℕ, ◌+◌, ◌-◌, ◌≤◌, List, ◌++◌, length, take, drop, refl, ap, ◌∙◌, arith, length-append}
 use Rattle.std.proofs.lemmas.List.{drop-take, drop-drop, length-drop, length-take, length-take-le, drop-append-le}
 use Rattle.std.proofs.Math.Seq.{take-append_seam}
 use Rattle.mcbp_frame.specs.declared.frame.Frame.{Frame}
 use Rattle.mcbp_frame.specs.declared.frame.FrameData.{FrameData}
 use Rattle.mcbp_frame.specs.declared.feeder.FeederData.{FeederData}
 use Rattle.mcbp_frame.specs.declared.frame.TheConstants.{HEADER}
-use Rattle.mcbp_frame.specs.Frames.{body_length, frame_length, IsFrame, frame_at, frame_data}
+use Rattle.mcbp_frame.specs.Frames.{frame_length, IsFrame, frame_at, frame_data}
 use Rattle.mcbp_frame.specs.Feeder.{first_frame, after_next}
 use Rattle.mcbp_frame.specs.declared.feeder.Next.TheVariants as nexts
 use Rattle.mcbp_frame.proofs.FirstFrame.{body_length-take}

@@ -1,5 +1,5 @@
 -- The division of a text into frames and a rest. It knows no buffer and no pieces.
-use Rattle.std.specs.Prelude.{◌≡◌, ◌≢◌, ℕ, ◌+◌, ◌<◌, ◌≤◌, List, [], ◌∷◌, ◌++◌, length, slice_index}
+use Rattle.std.specs.Prelude.{◌≡◌, ◌≢◌, ℕ, ◌<◌, ◌≤◌, List, ◌++◌, length, slice_index}
 use Rattle.std.specs.List.{AllByRecursion, concat}
 use Rattle.mcbp_frame.specs.declared.frame.TheConstants.{REQUEST, HEADER, MAX_BODY}
 use Rattle.mcbp_frame.specs.Frames.{body_length, frame_length, IsFrame}

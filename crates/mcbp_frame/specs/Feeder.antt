@@ -1,6 +1,5 @@
 -- What a feeder hands out, by what it holds.
-use Rattle.std.specs.Prelude.{◌≡◌, ℕ, ◌+◌, List, length, take, drop}
-use Rattle.mcbp_frame.specs.declared.frame.Frame.{Frame}
+use Rattle.std.specs.Prelude.{◌≡◌, ℕ, ◌+◌, List, take, drop}
 use Rattle.mcbp_frame.specs.declared.feeder.FeederData.{FeederData}
 use Rattle.mcbp_frame.specs.declared.feeder.Next.{Next}
 use Rattle.mcbp_frame.specs.declared.feeder.Next.TheVariants as nexts

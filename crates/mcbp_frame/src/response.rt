@@ -26,36 +26,15 @@ pub fn put_response(
     ensures bytes { out.new.bytes ≡ out.old.bytes ++ response opcode status opaque cas datatype extras.now key.now value.now }
     ensures spare { out.new.spare + (24 + length extras.now + length key.now + length value.now) ≡ out.old.spare }
 {
-    let [key_high, key_low] = (key.len() as u16).to_be_bytes();
-    let [status_high, status_low] = status.to_be_bytes();
+    let extras_len = extras.len() as u8;
+    let [k0, k1] = (key.len() as u16).to_be_bytes();
+    let [s0, s1] = status.to_be_bytes();
     let [b0, b1, b2, b3] = ((extras.len() + key.len() + value.len()) as u32).to_be_bytes();
     let [o0, o1, o2, o3] = opaque.to_be_bytes();
     let [c0, c1, c2, c3, c4, c5, c6, c7] = cas.to_be_bytes();
     out.push(&[
-        RESPONSE,
-        opcode,
-        key_high,
-        key_low,
-        extras.len() as u8,
-        datatype,
-        status_high,
-        status_low,
-        b0,
-        b1,
-        b2,
-        b3,
-        o0,
-        o1,
-        o2,
-        o3,
-        c0,
-        c1,
-        c2,
-        c3,
-        c4,
-        c5,
-        c6,
-        c7,
+        RESPONSE, opcode, k0, k1, extras_len, datatype, s0, s1, b0, b1, b2, b3, //
+        o0, o1, o2, o3, c0, c1, c2, c3, c4, c5, c6, c7,
     ]);
     out.push(extras);
     out.push(key);

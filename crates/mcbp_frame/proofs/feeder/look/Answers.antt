@@ -1,4 +1,4 @@
-use Rattle.std.proofs.Common.{◌≡◌, ℕ, ◌+◌, arith, take, sym, subst}
+use Rattle.std.proofs.Common.{◌≡◌, ℕ, ◌+◌, arith, take, subst}
 use Rattle.mcbp_frame.specs.declared.frame.TheConstants.{HEADER}
 use Rattle.mcbp_frame.specs.Frames.{IsFrame, frame_at, frame_data}
 use Rattle.mcbp_frame.proofs.FirstFrame.{IsFrame-take}
