@@ -57,7 +57,10 @@ session_from before now end history taken rest pending moment extra unserved lef
   in_order = refl;
   all = all;
   moments = p.moments;
-  extra = extra; few = few; exact = exact; asked = λ k. asked k ∙ p.asked (extra + k);
+  extra = extra;
+  few = few;
+  exact = exact;
+  asked = λ k. asked k ∙ p.asked (extra + k);
   noted = noted_from end history p.served not p.noted;
   legal = legal;
   wrote = p.wrote;
@@ -133,11 +136,11 @@ session_written before mid now end final front s w left ended read write moment 
     let here : Stand = record { rest = s.rest; history = front.history; pending = s.pending; held = mid.held; moment = s.moment } in
     let pending = subst (λ (l : List ℕ). Writes l [] mid.held now.held) (sym (s.kept w.able)) w.writes in
     subst (λ (e : End). IsSession before now e front.history) (sym w.same)
-      (session_of before now end front.history s.taken s.rest [] s.moment s.extra
-        (subst (λ (o : Option (List ℕ)). Takes before.left o s.taken) (sym left) s.takes)
-        (serves_then _ here _ s.serves (serves_writes here [] now.held pending))
-        s.few (exact_from end s.extra s.exact) (λ k. moment k ∙ s.asked k) (λ _. refl) s.legal s.served
-        (comes_later end before mid now s.taken s.rest left ended read write s.comes))
+    (session_of before now end front.history s.taken s.rest [] s.moment s.extra
+    (subst (λ (o : Option (List ℕ)). Takes before.left o s.taken) (sym left) s.takes)
+    (serves_then _ here _ s.serves (serves_writes here [] now.held pending))
+    s.few (exact_from end s.extra s.exact) (λ k. moment k ∙ s.asked k) (λ _. refl) s.legal s.served
+    (comes_later end before mid now s.taken s.rest left ended read write s.comes))
 
 -- a session that stopped, and then lost some of its last answers
 session_lost : (before mid now : Outside) (end final : End) (front : Front) (s : Stops before mid end front) (w : Lost end final front.answers.bytes mid.held now.held (Rose mid.write_faults now.write_faults))
@@ -147,11 +150,11 @@ session_lost before mid now end final front s w left older moment =
     let here : Stand = record { rest = s.rest; history = front.history; pending = s.pending; held = mid.held; moment = s.moment } in
     let pending = subst (λ (l : List ℕ). Writes l w.lost mid.held now.held) (sym (s.kept w.able)) w.writes in
     subst (λ (e : End). IsSession before now e front.history) (sym w.fault)
-      (session_of before now ends.WriteFault front.history s.taken s.rest w.lost s.moment s.extra
-        (subst (λ (o : Option (List ℕ)). Takes before.left o s.taken) (sym left) s.takes)
-        (serves_then _ here _ s.serves (serves_writes here w.lost now.held pending))
-        s.few (λ cut. cc) (λ k. moment k ∙ s.asked k) (λ not. absurd (not refl)) s.legal (λ e. cc)
-        (rose_from _ _ _ older w.why))
+    (session_of before now ends.WriteFault front.history s.taken s.rest w.lost s.moment s.extra
+    (subst (λ (o : Option (List ℕ)). Takes before.left o s.taken) (sym left) s.takes)
+    (serves_then _ here _ s.serves (serves_writes here w.lost now.held pending))
+    s.few (λ cut. cc) (λ k. moment k ∙ s.asked k) (λ not. absurd (not refl)) s.legal (λ e. cc)
+    (rose_from _ _ _ older w.why))
 
 -- a session that a fault of writing stopped
 session_broken : (before mid now : Outside) (end final : End) (front : Front) (s : Stops before mid end front) (w : Broken end final mid.held now.held)
@@ -159,11 +162,11 @@ session_broken : (before mid now : Outside) (end final : End) (front : Front) (s
     → IsSession before now final front.history
 session_broken before mid now end final front s w left ended read write moment =
     subst (λ (e : End). IsSession before now e front.history) (w.before ∙ sym w.fault)
-      (session_of before now end front.history s.taken s.rest s.pending s.moment s.extra
-        (subst (λ (o : Option (List ℕ)). Takes before.left o s.taken) (sym left) s.takes)
-        (subst (λ (h : Option (List ℕ)). Serves (begin before s.taken) (record { rest = s.rest; history = front.history; pending = s.pending; held = h; moment = s.moment })) (sym w.same) s.serves)
-        s.few (exact_from end s.extra s.exact) (λ k. moment k ∙ s.asked k) (λ not. absurd (not w.before)) s.legal s.served
-        (comes_later end before mid now s.taken s.rest left ended read write s.comes))
+    (session_of before now end front.history s.taken s.rest s.pending s.moment s.extra
+    (subst (λ (o : Option (List ℕ)). Takes before.left o s.taken) (sym left) s.takes)
+    (subst (λ (h : Option (List ℕ)). Serves (begin before s.taken) (record { rest = s.rest; history = front.history; pending = s.pending; held = h; moment = s.moment })) (sym w.same) s.serves)
+    s.few (exact_from end s.extra s.exact) (λ k. moment k ∙ s.asked k) (λ not. absurd (not w.before)) s.legal s.served
+    (comes_later end before mid now s.taken s.rest left ended read write s.comes))
 
 pub session_finished : (before mid now : Outside) (end final : End) (front : Front) → Stops before mid end front → Finishes end final front.answers.bytes mid.held now.held (Rose mid.write_faults now.write_faults)
     → now.left ≡ mid.left → now.has_ended ≡ mid.has_ended → now.read_faults ≡ mid.read_faults → before.write_faults ≤ mid.write_faults → mid.write_faults ≤ now.write_faults → ((k : ℕ) → now.moment k ≡ mid.moment k)
@@ -181,10 +184,29 @@ finished_served end final pending old new rose not (inr (inr w)) e = let f = w.f
 -- a session that didn't begin took, served and wrote nothing
 pub session_none : (before : Outside) (end : End) → IsNoted end [] [] → Comes before before [] [] end → IsSession before before end []
 session_none before end noted comes = record {
-    taken = []; frames = []; rest = []; served = []; unserved = []; written = []; lost = [];
-    takes = takes_nothing before.left;
-    divided = divides-none [] (partial_over (record { magic = λ h. absurd (omega arith); body = λ h. absurd (omega arith); short = λ h. absurd (omega arith) }));
-    in_order = refl; all = λ _. refl; moments = tt;
-    extra = 0; few = omega arith; exact = λ _. refl; asked = λ k. ap before.moment (omega arith);
-    noted = noted; legal = tt; wrote = appends_nothing before.held; texts = refl; whole = λ _. refl; comes = comes
+  taken = [];
+  frames = [];
+  rest = [];
+  served = [];
+  unserved = [];
+  written = [];
+  lost = [];
+  takes = takes_nothing before.left;
+  divided = divides-none [] (partial_over (record { magic = λ h. absurd (omega arith); body = λ h. absurd (omega arith); short = λ h. absurd (omega arith) }));
+  in_order = refl;
+  all = λ _. refl;
+  moments = tt;
+  extra = 0;
+  few = omega arith;
+  exact = λ _. refl;
+  asked = λ k. ap before.moment (omega arith);
+  noted = noted;
+  legal = tt;
+  wrote = appends_nothing before.held;
+  texts = refl;
+  whole = λ _. refl;
+  comes = comes;
 }
+
+pub session_unopened : (before : Outside) (end : End) (history : List EventData) → history ≡ [] → IsNoted end [] [] → Comes before before [] [] end → IsSession before before end history
+session_unopened before end history none noted comes = subst (λ (h : List EventData). IsSession before before end h) (sym none) (session_none before end noted comes)

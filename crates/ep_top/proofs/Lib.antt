@@ -4,3 +4,4 @@ pub mod Stands
 pub mod Pieces
 pub mod Sessions
 pub mod Ends
+pub mod Words

@@ -107,7 +107,11 @@ stops_in_frames end before mid now count n at rest fed rest' front front' p f b 
       moment = b.moment;
       takes = takes_then _ _ _ _ _ p.takes f.takes;
       serves = serves_then _ _ _ (serves_piece before mid now count (got.Bytes n) rest fed front p f) b.serves;
-      kept = b.kept; extra = b.extra; few = b.few; exact = b.exact; asked = b.asked;
+      kept = b.kept;
+      extra = b.extra;
+      few = b.few;
+      exact = b.exact;
+      asked = b.asked;
       legal = legal;
       comes = comes_from end before now _ b.rest rest' at _ (rose_from _ _ _ p.write_faults) (place ∙ sym long) b.why;
       served = not_bad_words end b.rest rest' at _ b.why;
@@ -125,7 +129,10 @@ stops_here end before mid now count rest front p takes held moment served comes 
   takes = takes;
   serves = subst (λ (h : Option (List ℕ)). Serves (begin before p.taken) (record { rest = rest; history = front.history; pending = front.answers.bytes; held = h; moment = mid.moment })) (sym held) p.serves;
   kept = λ _. refl;
-  extra = 0; few = omega arith; exact = λ _. refl; asked = λ k. moment k ∙ ap mid.moment (sym (zero-add k));
+  extra = 0;
+  few = omega arith;
+  exact = λ _. refl;
+  asked = λ k. moment k ∙ ap mid.moment (sym (zero-add k));
   legal = p.sound.legal;
   comes = comes;
   served = served;

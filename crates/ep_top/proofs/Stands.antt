@@ -126,7 +126,12 @@ breaks_fault old new lost kept held at rose p w why = record {
   pending = lost;
   moment = new.moment;
   serves = serves_then old new _ p (serves_writes new lost held w);
-  kept = λ h. absurd (h refl); extra = 0; few = omega arith; exact = λ _. refl; asked = λ k. ap new.moment (sym (zero-add k)); why = why;
+  kept = λ h. absurd (h refl);
+  extra = 0;
+  few = omega arith;
+  exact = λ _. refl;
+  asked = λ k. ap new.moment (sym (zero-add k));
+  why = why;
 }
 
 -- memory was wanting for the frame that was handed out, behind some answers that were written
@@ -148,7 +153,12 @@ breaks_memory_at here more pending held new later at rose w history same asked =
     moments = tt;
     asked = λ k. ap here.moment (sym (zero-add k));
   };
-  kept = λ _. refl; extra = 1; few = omega arith; exact = λ h. absurd (h refl); asked = λ k. asked k ∙ ap here.moment (omega arith); why = tt;
+  kept = λ _. refl;
+  extra = 1;
+  few = omega arith;
+  exact = λ h. absurd (h refl);
+  asked = λ k. asked k ∙ ap here.moment (omega arith);
+  why = tt;
 }
 
 -- what a feeder holds is no request
@@ -158,8 +168,13 @@ breaks_torn held later old new place rose p rest same faulty at = record {
   rest = new.rest;
   pending = new.pending;
   moment = new.moment;
-  serves = p; kept = λ _. refl; extra = 0; few = omega arith; exact = λ _. refl; asked = λ k. ap new.moment (sym (zero-add k));
-    why = (subst (λ (l : List ℕ). IsFaulty l) (sym (rest ∙ ap (λ (x : FeederData). x.rest) same)) faulty, refl, at ∙ sym (ap (λ (x : FeederData). x.at) same));
+  serves = p;
+  kept = λ _. refl;
+  extra = 0;
+  few = omega arith;
+  exact = λ _. refl;
+  asked = λ k. ap new.moment (sym (zero-add k));
+  why = (subst (λ (l : List ℕ). IsFaulty l) (sym (rest ∙ ap (λ (x : FeederData). x.rest) same)) faulty, refl, at ∙ sym (ap (λ (x : FeederData). x.at) same));
 }
 
 still_stopped : (end : End) (rest kept : List ℕ) (at : ℕ) (rose later : Type 0) → (rose → later) → HasStopped end rest kept at rose → HasStopped end rest kept at later
@@ -177,7 +192,11 @@ breaks_then end a b c at rose later p f q = record {
   pending = q.pending;
   moment = q.moment;
   serves = serves_then a b _ p q.serves;
-  kept = q.kept; extra = q.extra; few = q.few; exact = q.exact; asked = q.asked;
+  kept = q.kept;
+  extra = q.extra;
+  few = q.few;
+  exact = q.exact;
+  asked = q.asked;
   why = still_stopped end q.rest c.rest at rose later f q.why;
 }
 

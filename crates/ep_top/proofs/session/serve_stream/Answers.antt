@@ -1,13 +1,13 @@
 -- Piece after piece.
 use Rattle.std.proofs.Common.{◌≡◌, ◌∙◌, ◌+◌, ℕ, List, length, ap, refl, arith}
 use Rattle.ep_top.specs.Outside.{Outside, outside}
-use Rattle.ep_top.proofs.Sessions.{progress_none, progress_more, stops_in_frames, feeds_length, or_false}
+use Rattle.ep_top.proofs.Sessions.{progress_none, progress_more, stops_in_frames, stops_at_end, stops_at_fault, stops_at_limit, feeds_length, or_false, or_true}
 use Rattle.ep_top.proofs.session.serve_stream.Goals as goal
 
 pub pieces-init : goal.pieces-init
 pieces-init g c = record {
   progress = progress_none _ _ _ c.requires.rest c.requires.fresh c.requires.sound;
-  place = ?;
+  place = omega (arith, c.requires.at, ap (λ (l : List ℕ). length l) c.requires.rest);
   under = omega arith;
 }
 
@@ -35,3 +35,28 @@ pieces-preserved g c =
       place = omega (arith, long, c.drain.ensures.place, c.in-Bytes.ensures.at, c.pieces.invariant.place);
       under = omega (arith, most);
     }
+
+pub returns-in-End-clause-stops : goal.returns-in-End-clause-stops
+returns-in-End-clause-stops g c =
+    stops_at_end c.end_of_input.result _
+    (outside (g.R.Source.left c.pieces.source) (g.R.Source.has_ended c.pieces.source) (g.R.Source.faults c.pieces.source) (g.W.Sink.held c.pieces.sink) (g.W.Sink.faults c.pieces.sink) (g.C.Clock.moment c.pieces.clock))
+    (outside (g.R.Source.left c.take.new.source) (g.R.Source.has_ended c.take.new.source) (g.R.Source.faults c.take.new.source) (g.W.Sink.held c.pieces.sink) (g.W.Sink.faults c.pieces.sink) (g.C.Clock.moment c.pieces.clock))
+    c.pieces.taken c.pieces.feeder.rest c.take.new.feeder c.pieces.front
+    c.pieces.invariant.progress c.in-End.ensures.feeds refl (λ _. refl)
+    (c.in-End.ensures.ended ∙ or_true _) (c.in-End.ensures.end refl) c.pieces-test.true
+    (omega (arith, c.in-End.ensures.at, c.pieces.invariant.place)) c.end_of_input.ensures
+
+pub returns-in-Failed-clause-stops : goal.returns-in-Failed-clause-stops
+returns-in-Failed-clause-stops g c =
+    stops_at_fault _
+    (outside (g.R.Source.left c.pieces.source) (g.R.Source.has_ended c.pieces.source) (g.R.Source.faults c.pieces.source) (g.W.Sink.held c.pieces.sink) (g.W.Sink.faults c.pieces.sink) (g.C.Clock.moment c.pieces.clock))
+    (outside (g.R.Source.left c.take.new.source) (g.R.Source.has_ended c.take.new.source) (g.R.Source.faults c.take.new.source) (g.W.Sink.held c.pieces.sink) (g.W.Sink.faults c.pieces.sink) (g.C.Clock.moment c.pieces.clock))
+    c.pieces.taken c.pieces.feeder.rest c.take.new.feeder.rest c.pieces.front
+    c.pieces.invariant.progress c.in-Failed.ensures.feeds refl (λ _. refl)
+    (c.in-Failed.ensures.ended ∙ or_false _) (c.in-Failed.ensures.failed refl) c.pieces-test.true
+
+pub returns-clause-stops : goal.returns-clause-stops
+returns-clause-stops g c =
+    stops_at_limit _
+    (outside (g.R.Source.left c.pieces.source) (g.R.Source.has_ended c.pieces.source) (g.R.Source.faults c.pieces.source) (g.W.Sink.held c.pieces.sink) (g.W.Sink.faults c.pieces.sink) (g.C.Clock.moment c.pieces.clock))
+    c.pieces.taken c.pieces.feeder.rest c.pieces.front c.pieces.invariant.progress (let under = c.pieces.invariant.under in omega arith)
