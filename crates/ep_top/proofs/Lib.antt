@@ -5,3 +5,4 @@ pub mod Pieces
 pub mod Sessions
 pub mod Ends
 pub mod Words
+pub mod OneEnd

@@ -2,6 +2,7 @@ pub mod End
 pub mod Exchange
 pub mod Front
 pub mod History
+pub mod Laws
 pub mod Outside
 pub mod Session
 pub mod Stand

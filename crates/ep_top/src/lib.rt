@@ -4,9 +4,11 @@
 mod end;
 mod front;
 mod history;
+mod laws;
 mod request;
 mod session;
 
 pub use end::End;
 pub use history::History;
+pub use laws::one_end;
 pub use session::{MAX_TAKEN, SessionEnd, run_session};
