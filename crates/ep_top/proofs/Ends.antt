@@ -1,5 +1,5 @@
 -- From how a session stopped to what it did, once its last answers were written.
-use Rattle.std.proofs.Common.{◌≡◌, ◌≢◌, ◌⊎◌, ℕ, ◌+◌, ◌≤◌, Bool, true, false, List, [], ◌∷◌, ◌++◌, length, refl, sym, ap, subst, ◌∙◌, inl, inr, Option, None, Some, arith, append_assoc, append-nil}
+use Rattle.std.proofs.Common.{◌≡◌, ◌≢◌, ◌⊎◌, ℕ, ◌+◌, ◌≤◌, Bool, true, false, ◌||◌, List, [], ◌∷◌, ◌++◌, length, refl, sym, ap, subst, ◌∙◌, inl, inr, Option, None, Some, arith, append_assoc, append-nil}
 use Rattle.std.specs.List.{AllByRecursion, concat, flat_map}
 use Rattle.ep_edge.specs.Edge.{Takes, Rose, Appends, IsEmptied}
 use Rattle.ep_model.specs.declared.data.EventData.{EventData}
@@ -12,10 +12,11 @@ use Rattle.mcbp_frame.proofs.DivisionLemmas.{divides-cons, divides-none, rest_ov
 use Rattle.ep_top.specs.declared.end.End.{End}
 use Rattle.ep_top.specs.declared.end.End.TheVariants as ends
 use Rattle.ep_top.specs.declared.front.Front.{Front}
-use Rattle.ep_top.specs.Exchange.{Exchange, event_of, text_of}
+use Rattle.conn_core.specs.declared.hello.Features.{Features}
+use Rattle.ep_top.specs.Exchange.{Exchange, event_of}
 use Rattle.ep_top.specs.Front.{start}
 use Rattle.ep_top.specs.Outside.{Outside}
-use Rattle.ep_top.specs.Stand.{Stand, bytes_of, Serves, Writes, IsFaulty}
+use Rattle.ep_top.specs.Stand.{Stand, bytes_of, Serves, Writes, is_quit_end}
 use Rattle.ep_top.specs.Session.{HasEnded, MayGoOn, is_cut, Comes, IsNoted, IsSession, begin, Stops, Written, Lost, Broken, Finishes}
 use Rattle.ep_top.proofs.Stands.{serves_then, serves_writes, serves_nothing, appends_nothing, rose_from}
 use Rattle.ep_top.proofs.Sessions.{takes_nothing}
@@ -30,21 +31,24 @@ divides_after (frame ∷ frames) {text} {later} {rest} each d =
 noted_from : (end : End) (history : List EventData) (served : List Exchange) → end ≢ ends.BadWords → history ≡ Opened ∷ flat_map event_of served → IsNoted end history served
 noted_from ends.BadWords history served not e = absurd (not refl)
 noted_from ends.NoMemory history served not e = inr e
+noted_from (ends.BadMagic at) history served not e = e
+noted_from (ends.TooLong at) history served not e = e
 noted_from (ends.Torn at) history served not e = e
 noted_from ends.Limit history served not e = e
 noted_from ends.ReadFault history served not e = e
 noted_from ends.WriteFault history served not e = e
+noted_from ends.Quit history served not e = e
 noted_from ends.Closed history served not e = e
 
 -- all of it, from what was served and written in the end, and from the division of what wasn't served
-session_from : (before now : Outside) (end : End) (history : List EventData) (taken rest pending : List ℕ) (moment : ℕ → Option ℕ) (extra : ℕ) (unserved : List (List ℕ)) (left : List ℕ)
+session_from : (before now : Outside) (end : End) (history : List EventData) (taken rest pending : List ℕ) (moment : ℕ → Option ℕ) (features : Features) (quit : Bool) (extra : ℕ) (unserved : List (List ℕ)) (left : List ℕ)
     → Takes before.left now.left taken
-    → Serves (begin before taken) (record { rest = rest; history = history; pending = pending; held = now.held; moment = moment })
-    → Divides rest unserved left → (is_cut end ≡ false → unserved ≡ [])
+    → Serves (begin before taken) (record { rest = rest; history = history; pending = pending; held = now.held; moment = moment; features = features; quit = quit })
+    → Divides rest unserved left → (is_cut end ≡ false → quit ≡ false → unserved ≡ [])
     → extra ≤ 1 → (is_cut end ≡ false → extra ≡ 0) → ((k : ℕ) → now.moment k ≡ moment (extra + k)) → (end ≢ ends.WriteFault → pending ≡ [])
-    → IsLegal start history → end ≢ ends.BadWords → Comes before now taken left end
+    → IsLegal start history → end ≢ ends.BadWords → Comes before now taken left quit end
     → IsSession before now end history
-session_from before now end history taken rest pending moment extra unserved left takes p d all few exact asked whole legal not comes = record {
+session_from before now end history taken rest pending moment features quit extra unserved left takes p d all few exact asked whole legal not comes = record {
   taken = taken;
   frames = bytes_of p.served ++ unserved;
   rest = left;
@@ -55,6 +59,8 @@ session_from before now end history taken rest pending moment extra unserved lef
   takes = takes;
   divided = subst (λ (t : List ℕ). Divides t (bytes_of p.served ++ unserved) left) (sym p.rest) (divides_after (bytes_of p.served) p.each d);
   in_order = refl;
+  quit = quit;
+  stops_at_quit = p.quits;
   all = all;
   moments = p.moments;
   extra = extra;
@@ -69,42 +75,66 @@ session_from before now end history taken rest pending moment extra unserved lef
   comes = comes;
 }
 
--- an end that comes behind all whole frames leaves a rest that begins with none
-rest_from : (end : End) (before now : Outside) (taken rest : List ℕ) → end ≢ ends.BadWords → is_cut end ≡ false → Comes before now taken rest end → IsRest rest
-rest_from ends.BadWords before now taken rest not cut h = absurd (not refl)
-rest_from ends.NoMemory before now taken rest not cut h = cc
-rest_from (ends.Torn at) before now taken rest not cut (inl faulty, place) = inr faulty
-rest_from (ends.Torn at) before now taken rest not cut (inr (ended, partial, some), place) = inl partial
-rest_from ends.Limit before now taken rest not cut h = inl h.0.partial
-rest_from ends.ReadFault before now taken rest not cut h = inl h.0.partial
-rest_from ends.WriteFault before now taken rest not cut h = cc
-rest_from ends.Closed before now taken rest not cut h = inl (subst (λ (l : List ℕ). IsPartial l) (sym h.1) (record { magic = λ h. absurd (omega arith); body = λ h. absurd (omega arith); short = λ h. absurd (omega arith) }))
+nothing_is_partial : (rest : List ℕ) → rest ≡ [] → IsPartial rest
+nothing_is_partial rest e = subst (λ (l : List ℕ). IsPartial l) (sym e) (record { magic = λ h. absurd (omega arith); body = λ h. absurd (omega arith); short = λ h. absurd (omega arith) })
 
--- an end that is cut says nothing of the rest
-comes_anywhere : (end : End) (before now : Outside) (taken rest left : List ℕ) → is_cut end ≡ true → Comes before now taken rest end → Comes before now taken left end
-comes_anywhere ends.BadWords before now taken rest left cut h = cc
-comes_anywhere ends.NoMemory before now taken rest left cut h = h
-comes_anywhere (ends.Torn at) before now taken rest left cut h = cc
-comes_anywhere ends.Limit before now taken rest left cut h = cc
-comes_anywhere ends.ReadFault before now taken rest left cut h = cc
-comes_anywhere ends.WriteFault before now taken rest left cut h = h
-comes_anywhere ends.Closed before now taken rest left cut h = cc
+-- an end that comes behind all whole frames leaves a rest that begins with none
+rest_from : (end : End) (before now : Outside) (taken rest : List ℕ) (quit : Bool) → end ≢ ends.BadWords → is_cut end ≡ false → quit ≡ false → Comes before now taken rest quit end → IsRest rest
+rest_from ends.BadWords before now taken rest quit not cut none h = absurd (not refl)
+rest_from ends.NoMemory before now taken rest quit not cut none h = cc
+rest_from (ends.BadMagic at) before now taken rest quit not cut none h = inr (inl h.0)
+rest_from (ends.TooLong at) before now taken rest quit not cut none h = inr (inr h.0)
+rest_from (ends.Torn at) before now taken rest quit not cut none h = inl h.1
+rest_from ends.Limit before now taken rest quit not cut none h = inl h.0.partial
+rest_from ends.ReadFault before now taken rest quit not cut none h = inl h.0.partial
+rest_from ends.WriteFault before now taken rest quit not cut none h = cc
+rest_from ends.Quit before now taken rest quit not cut none h = cc
+rest_from ends.Closed before now taken rest quit not cut none h = inl (nothing_is_partial rest h.1)
+
+-- an end between frames says nothing of the rest
+abbrev is_between : End → Bool → Bool
+is_between end quit = is_cut end || quit
+
+comes_anywhere : (end : End) (before now : Outside) (taken rest left : List ℕ) (quit : Bool) → is_cut end || quit ≡ true → Comes before now taken rest quit end → Comes before now taken left quit end
+comes_anywhere ends.BadWords before now taken rest left quit cut h = h
+comes_anywhere ends.NoMemory before now taken rest left quit cut h = h
+comes_anywhere (ends.BadMagic at) before now taken rest left quit cut h = let none = h.2 in cc
+comes_anywhere (ends.TooLong at) before now taken rest left quit cut h = let none = h.2 in cc
+comes_anywhere (ends.Torn at) before now taken rest left quit cut h = let none = h.4 in cc
+comes_anywhere ends.Limit before now taken rest left quit cut h = let none = h.2 in cc
+comes_anywhere ends.ReadFault before now taken rest left quit cut h = let none = h.3 in cc
+comes_anywhere ends.WriteFault before now taken rest left quit cut h = h
+comes_anywhere ends.Quit before now taken rest left quit cut h = h
+comes_anywhere ends.Closed before now taken rest left quit cut h = let none = h.2 in cc
+
+or_false_left : (a b : Bool) → a || b ≡ false → a ≡ false
+or_false_left true b e = e
+or_false_left false b e = refl
+
+or_false_right : (a b : Bool) → a || b ≡ false → b ≡ false
+or_false_right true b e = cc
+or_false_right false b e = e
+
+or_true_not : (a b : Bool) → a || b ≡ true → a ≡ false → b ≡ false → ⊥
+or_true_not true b e p q = cc
+or_true_not false b e p q = cc
 
 -- the same session, whichever way it ended: what wasn't served is divided too
-session_of : (before now : Outside) (end : End) (history : List EventData) (taken rest pending : List ℕ) (moment : ℕ → Option ℕ) (extra : ℕ)
+session_of : (before now : Outside) (end : End) (history : List EventData) (taken rest pending : List ℕ) (moment : ℕ → Option ℕ) (features : Features) (quit : Bool) (extra : ℕ)
     → Takes before.left now.left taken
-    → Serves (begin before taken) (record { rest = rest; history = history; pending = pending; held = now.held; moment = moment })
+    → Serves (begin before taken) (record { rest = rest; history = history; pending = pending; held = now.held; moment = moment; features = features; quit = quit })
     → extra ≤ 1 → (is_cut end ≡ false → extra ≡ 0) → ((k : ℕ) → now.moment k ≡ moment (extra + k)) → (end ≢ ends.WriteFault → pending ≡ [])
-    → IsLegal start history → end ≢ ends.BadWords → Comes before now taken rest end
+    → IsLegal start history → end ≢ ends.BadWords → Comes before now taken rest quit end
     → IsSession before now end history
-session_of before now end history taken rest pending moment extra takes p few exact asked whole legal not comes =
-    let cut : (b : Bool) → is_cut end ≡ b → IsSession before now end history =
-    elim [
-      | true ↦ λ is. let d = some_division rest in
-          session_from before now end history taken rest pending moment extra d.0 d.1 takes p d.2 (λ other. absurd (cc)) few exact asked whole legal not (comes_anywhere end before now taken rest d.1 is comes)
-      | false ↦ λ is. session_from before now end history taken rest pending moment extra [] rest takes p (divides-none rest (rest_over rest (rest_from end before now taken rest not is comes))) (λ _. refl) few exact asked whole legal not comes
-    ] in
-    cut (is_cut end) refl
+session_of before now end history taken rest pending moment features quit extra takes p few exact asked whole legal not comes =
+    let cut : (b : Bool) → is_cut end || quit ≡ b → IsSession before now end history =
+      elim [
+        | true ↦ λ is. let d = some_division rest in
+          session_from before now end history taken rest pending moment features quit extra d.0 d.1 takes p d.2 (λ other none. absurd (or_true_not (is_cut end) quit is other none)) few exact asked whole legal not (comes_anywhere end before now taken rest d.1 quit is comes)
+        | false ↦ λ is. session_from before now end history taken rest pending moment features quit extra [] rest takes p
+          (divides-none rest (rest_over rest (rest_from end before now taken rest quit not (or_false_left (is_cut end) quit is) (or_false_right (is_cut end) quit is) comes))) (λ _ _. refl) few exact asked whole legal not comes
+      ] in
+    cut (is_cut end || quit) refl
 
 rose_later : (a b c : ℕ) → b ≤ c → Rose a b → Rose a c
 rose_later a b c le h = omega arith
@@ -113,44 +143,46 @@ has_ended_later : (mid now : Outside) (taken : List ℕ) → now.left ≡ mid.le
 has_ended_later mid now taken left ended h = record { ended = ended ∙ h.ended; emptied = subst (λ (o : Option (List ℕ)). IsEmptied o) (sym left) h.emptied; under = h.under }
 
 -- only the sink changed since
-comes_later : (end : End) (before mid now : Outside) (taken rest : List ℕ) → now.left ≡ mid.left → now.has_ended ≡ mid.has_ended → now.read_faults ≡ mid.read_faults → mid.write_faults ≤ now.write_faults
-    → Comes before mid taken rest end → Comes before now taken rest end
-comes_later ends.BadWords before mid now taken rest left ended read write h = h
-comes_later ends.NoMemory before mid now taken rest left ended read write h = h
-comes_later (ends.Torn at) before mid now taken rest left ended read write (inl faulty, place) = (inl faulty, place)
-comes_later (ends.Torn at) before mid now taken rest left ended read write (inr (e, partial, some), place) = (inr (has_ended_later mid now taken left ended e, partial, some), place)
-comes_later ends.Limit before mid now taken rest left ended read write h = (record { partial = h.0.partial; going = ended ∙ h.0.going }, h.1)
-comes_later ends.ReadFault before mid now taken rest left ended read write h = (record { partial = h.0.partial; going = ended ∙ h.0.going }, h.1, subst (λ (n : ℕ). Rose before.read_faults n) (sym read) h.2)
-comes_later ends.WriteFault before mid now taken rest left ended read write h = rose_later _ _ _ write h
-comes_later ends.Closed before mid now taken rest left ended read write h = (has_ended_later mid now taken left ended h.0, h.1)
+comes_later : (end : End) (before mid now : Outside) (taken rest : List ℕ) (quit : Bool) → now.left ≡ mid.left → now.has_ended ≡ mid.has_ended → now.read_faults ≡ mid.read_faults → mid.write_faults ≤ now.write_faults
+    → Comes before mid taken rest quit end → Comes before now taken rest quit end
+comes_later ends.BadWords before mid now taken rest quit left ended read write h = h
+comes_later ends.NoMemory before mid now taken rest quit left ended read write h = h
+comes_later (ends.BadMagic at) before mid now taken rest quit left ended read write h = h
+comes_later (ends.TooLong at) before mid now taken rest quit left ended read write h = h
+comes_later (ends.Torn at) before mid now taken rest quit left ended read write h = (has_ended_later mid now taken left ended h.0, h.1, h.2, h.3, h.4)
+comes_later ends.Limit before mid now taken rest quit left ended read write h = (record { partial = h.0.partial; going = ended ∙ h.0.going }, h.1, h.2)
+comes_later ends.ReadFault before mid now taken rest quit left ended read write h = (record { partial = h.0.partial; going = ended ∙ h.0.going }, h.1, subst (λ (n : ℕ). Rose before.read_faults n) (sym read) h.2, h.3)
+comes_later ends.WriteFault before mid now taken rest quit left ended read write h = rose_later _ _ _ write h
+comes_later ends.Quit before mid now taken rest quit left ended read write h = h
+comes_later ends.Closed before mid now taken rest quit left ended read write h = (has_ended_later mid now taken left ended h.0, h.1, h.2)
 
 -- only want of memory leaves a frame for which the clock was asked and that isn't answered
 exact_from : (end : End) (extra : ℕ) → (end ≢ ends.NoMemory → extra ≡ 0) → is_cut end ≡ false → extra ≡ 0
 exact_from end extra exact cut = exact (λ is. absurd (let e = ap is_cut is in cc))
 
 -- a session that stopped, and then wrote its last answers
-session_written : (before mid now : Outside) (end final : End) (front : Front) (s : Stops before mid end front) (w : Written end final front.answers.bytes mid.held now.held)
+session_written : (before mid now : Outside) (end final : End) (front : Front) (s : Stops before mid end front) (w : Written end final front.conn.out.bytes mid.held now.held)
     → now.left ≡ mid.left → now.has_ended ≡ mid.has_ended → now.read_faults ≡ mid.read_faults → mid.write_faults ≤ now.write_faults → ((k : ℕ) → now.moment k ≡ mid.moment k)
     → IsSession before now final front.history
 session_written before mid now end final front s w left ended read write moment =
-    let here : Stand = record { rest = s.rest; history = front.history; pending = s.pending; held = mid.held; moment = s.moment } in
+    let here : Stand = record { rest = s.rest; history = front.history; pending = s.pending; held = mid.held; moment = s.moment; features = front.conn.features; quit = is_quit_end end } in
     let pending = subst (λ (l : List ℕ). Writes l [] mid.held now.held) (sym (s.kept w.able)) w.writes in
     subst (λ (e : End). IsSession before now e front.history) (sym w.same)
-    (session_of before now end front.history s.taken s.rest [] s.moment s.extra
+    (session_of before now end front.history s.taken s.rest [] s.moment front.conn.features (is_quit_end end) s.extra
     (subst (λ (o : Option (List ℕ)). Takes before.left o s.taken) (sym left) s.takes)
     (serves_then _ here _ s.serves (serves_writes here [] now.held pending))
     s.few (exact_from end s.extra s.exact) (λ k. moment k ∙ s.asked k) (λ _. refl) s.legal s.served
-    (comes_later end before mid now s.taken s.rest left ended read write s.comes))
+    (comes_later end before mid now s.taken s.rest (is_quit_end end) left ended read write s.comes))
 
 -- a session that stopped, and then lost some of its last answers
-session_lost : (before mid now : Outside) (end final : End) (front : Front) (s : Stops before mid end front) (w : Lost end final front.answers.bytes mid.held now.held (Rose mid.write_faults now.write_faults))
+session_lost : (before mid now : Outside) (end final : End) (front : Front) (s : Stops before mid end front) (w : Lost end final front.conn.out.bytes mid.held now.held (Rose mid.write_faults now.write_faults))
     → now.left ≡ mid.left → before.write_faults ≤ mid.write_faults → ((k : ℕ) → now.moment k ≡ mid.moment k)
     → IsSession before now final front.history
 session_lost before mid now end final front s w left older moment =
-    let here : Stand = record { rest = s.rest; history = front.history; pending = s.pending; held = mid.held; moment = s.moment } in
+    let here : Stand = record { rest = s.rest; history = front.history; pending = s.pending; held = mid.held; moment = s.moment; features = front.conn.features; quit = is_quit_end end } in
     let pending = subst (λ (l : List ℕ). Writes l w.lost mid.held now.held) (sym (s.kept w.able)) w.writes in
     subst (λ (e : End). IsSession before now e front.history) (sym w.fault)
-    (session_of before now ends.WriteFault front.history s.taken s.rest w.lost s.moment s.extra
+    (session_of before now ends.WriteFault front.history s.taken s.rest w.lost s.moment front.conn.features (is_quit_end end) s.extra
     (subst (λ (o : Option (List ℕ)). Takes before.left o s.taken) (sym left) s.takes)
     (serves_then _ here _ s.serves (serves_writes here w.lost now.held pending))
     s.few (λ cut. cc) (λ k. moment k ∙ s.asked k) (λ not. absurd (not refl)) s.legal (λ e. cc)
@@ -162,13 +194,13 @@ session_broken : (before mid now : Outside) (end final : End) (front : Front) (s
     → IsSession before now final front.history
 session_broken before mid now end final front s w left ended read write moment =
     subst (λ (e : End). IsSession before now e front.history) (w.before ∙ sym w.fault)
-    (session_of before now end front.history s.taken s.rest s.pending s.moment s.extra
+    (session_of before now end front.history s.taken s.rest s.pending s.moment front.conn.features (is_quit_end end) s.extra
     (subst (λ (o : Option (List ℕ)). Takes before.left o s.taken) (sym left) s.takes)
-    (subst (λ (h : Option (List ℕ)). Serves (begin before s.taken) (record { rest = s.rest; history = front.history; pending = s.pending; held = h; moment = s.moment })) (sym w.same) s.serves)
+    (subst (λ (h : Option (List ℕ)). Serves (begin before s.taken) (record { rest = s.rest; history = front.history; pending = s.pending; held = h; moment = s.moment; features = front.conn.features; quit = is_quit_end end })) (sym w.same) s.serves)
     s.few (exact_from end s.extra s.exact) (λ k. moment k ∙ s.asked k) (λ not. absurd (not w.before)) s.legal s.served
-    (comes_later end before mid now s.taken s.rest left ended read write s.comes))
+    (comes_later end before mid now s.taken s.rest (is_quit_end end) left ended read write s.comes))
 
-pub session_finished : (before mid now : Outside) (end final : End) (front : Front) → Stops before mid end front → Finishes end final front.answers.bytes mid.held now.held (Rose mid.write_faults now.write_faults)
+pub session_finished : (before mid now : Outside) (end final : End) (front : Front) → Stops before mid end front → Finishes end final front.conn.out.bytes mid.held now.held (Rose mid.write_faults now.write_faults)
     → now.left ≡ mid.left → now.has_ended ≡ mid.has_ended → now.read_faults ≡ mid.read_faults → before.write_faults ≤ mid.write_faults → mid.write_faults ≤ now.write_faults → ((k : ℕ) → now.moment k ≡ mid.moment k)
     → IsSession before now final front.history
 session_finished before mid now end final front s (inl w) left ended read older write moment = session_written before mid now end final front s w left ended read write moment
@@ -182,7 +214,7 @@ finished_served end final pending old new rose not (inr (inl w)) e = let f = w.f
 finished_served end final pending old new rose not (inr (inr w)) e = let f = w.fault in cc
 
 -- a session that didn't begin took, served and wrote nothing
-pub session_none : (before : Outside) (end : End) → IsNoted end [] [] → Comes before before [] [] end → IsSession before before end []
+pub session_none : (before : Outside) (end : End) → IsNoted end [] [] → Comes before before [] [] false end → IsSession before before end []
 session_none before end noted comes = record {
   taken = [];
   frames = [];
@@ -194,7 +226,9 @@ session_none before end noted comes = record {
   takes = takes_nothing before.left;
   divided = divides-none [] (partial_over (record { magic = λ h. absurd (omega arith); body = λ h. absurd (omega arith); short = λ h. absurd (omega arith) }));
   in_order = refl;
-  all = λ _. refl;
+  quit = false;
+  stops_at_quit = refl;
+  all = λ _ _. refl;
   moments = tt;
   extra = 0;
   few = omega arith;
@@ -208,5 +242,5 @@ session_none before end noted comes = record {
   comes = comes;
 }
 
-pub session_unopened : (before : Outside) (end : End) (history : List EventData) → history ≡ [] → IsNoted end [] [] → Comes before before [] [] end → IsSession before before end history
+pub session_unopened : (before : Outside) (end : End) (history : List EventData) → history ≡ [] → IsNoted end [] [] → Comes before before [] [] false end → IsSession before before end history
 session_unopened before end history none noted comes = subst (λ (h : List EventData). IsSession before before end h) (sym none) (session_none before end noted comes)

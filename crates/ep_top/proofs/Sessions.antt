@@ -6,7 +6,8 @@ use Rattle.ep_edge.specs.declared.source.Got.{Got}
 use Rattle.ep_edge.specs.declared.source.Got.TheVariants as got
 use Rattle.ep_model.specs.History.{IsLegal}
 use Rattle.mcbp_frame.specs.declared.feeder.FeederData.{FeederData}
-use Rattle.mcbp_frame.specs.Division.{IsPartial}
+use Rattle.mcbp_frame.specs.Division.{IsPartial, HasBadMagic, IsTooLong}
+use Rattle.conn_core.specs.declared.hello.Features.{Features}
 use Rattle.ep_top.specs.declared.end.End.{End}
 use Rattle.ep_top.specs.declared.end.End.TheVariants as ends
 use Rattle.ep_top.specs.declared.front.Front.{Front}
@@ -14,7 +15,7 @@ use Rattle.ep_top.specs.declared.session.TheConstants.{MAX_TAKEN}
 use Rattle.ep_top.specs.Front.{start, IsSound, IsFresh}
 use Rattle.ep_top.specs.Outside.{Outside}
 use Rattle.ep_top.specs.Piece.{Feeds}
-use Rattle.ep_top.specs.Stand.{Stand, stand, bytes_of, Serves, Breaks, HasStopped, IsFaulty}
+use Rattle.ep_top.specs.Stand.{Stand, stand, bytes_of, Serves, Breaks, HasStopped, is_quit_end}
 use Rattle.ep_top.specs.Session.{HasEnded, MayGoOn, Comes, begin, Progress, Stops, EndsAt}
 use Rattle.ep_top.proofs.Stands.{serves_then, rose_from, appends_nothing}
 
@@ -42,29 +43,28 @@ no_bytes (x ∷ l) e = absurd (omega arith)
 
 -- more bytes came behind those that were taken
 serves_fed : (before : Outside) (taken piece : List ℕ) (b : Stand) → Serves (begin before taken) b
-    → Serves (begin before (taken ++ piece)) (record { rest = b.rest ++ piece; history = b.history; pending = b.pending; held = b.held; moment = b.moment })
+    → Serves (begin before (taken ++ piece)) (record b { rest = b.rest ++ piece })
 serves_fed before taken piece b p = record {
   served = p.served;
   written = p.written;
   rest = ap (λ l. l ++ piece) p.rest ∙ append_assoc (concat (bytes_of p.served)) b.rest piece;
   each = p.each;
   noted = p.noted;
-  texts = p.texts;
-  wrote = p.wrote;
+  texts = p.texts; features = p.features; quits = p.quits; wrote = p.wrote;
   moments = p.moments;
   asked = p.asked;
 }
 
 -- a session that was at the end of all whole frames got a piece, which is `fed` with what it held
 serves_piece : (before mid now : Outside) (count : ℕ) (got : Got) (rest fed : List ℕ) (front : Front) (p : Progress before mid count rest front) (f : Feeds got rest fed mid.left now.left)
-    → Serves (begin before (p.taken ++ f.piece)) (stand fed front mid.held mid.moment)
+    → Serves (begin before (p.taken ++ f.piece)) (stand fed front mid.held mid.moment false)
 serves_piece before mid now count got rest fed front p f =
-    subst (λ (l : List ℕ). Serves (begin before (p.taken ++ f.piece)) (stand l front mid.held mid.moment)) (sym f.fed) (serves_fed before p.taken f.piece _ p.serves)
+    subst (λ (l : List ℕ). Serves (begin before (p.taken ++ f.piece)) (stand l front mid.held mid.moment false)) (sym f.fed) (serves_fed before p.taken f.piece _ p.serves)
 
 pub progress_more : (before mid now : Outside) (count n : ℕ) (rest fed rest' : List ℕ) (front front' : Front)
     → Progress before mid count rest front → Feeds (got.Bytes n) rest fed mid.left now.left
-    → Serves (stand fed front mid.held mid.moment) (stand rest' front' now.held now.moment)
-    → IsSound front' → IsPartial rest' → front'.answers.bytes ≡ [] → now.has_ended ≡ mid.has_ended → mid.read_faults ≤ now.read_faults → mid.write_faults ≤ now.write_faults
+    → Serves (stand fed front mid.held mid.moment false) (stand rest' front' now.held now.moment false)
+    → IsSound front' → IsPartial rest' → front'.conn.out.bytes ≡ [] → now.has_ended ≡ mid.has_ended → mid.read_faults ≤ now.read_faults → mid.write_faults ≤ now.write_faults
     → Progress before now (count + n) rest' front'
 progress_more before mid now count n rest fed rest' front front' p f s sound partial written going read write = record {
   taken = p.taken ++ f.piece;
@@ -81,13 +81,16 @@ progress_more before mid now count n rest fed rest' front front' p f s sound par
 
 -- why serving stopped is how the session ends
 comes_from : (end : End) (before now : Outside) (taken rest kept : List ℕ) (at : ℕ) (rose : Type 0) → (rose → Rose before.write_faults now.write_faults) → at + length kept ≡ length taken
-    → HasStopped end rest kept at rose → Comes before now taken rest end
+    → HasStopped end rest kept at rose → Comes before now taken rest (is_quit_end end) end
 comes_from ends.BadWords before now taken rest kept at rose f place h = absurd h
 comes_from ends.NoMemory before now taken rest kept at rose f place h = tt
-comes_from (ends.Torn t) before now taken rest kept at rose f place h = (inl h.0, omega (arith, ap (λ l. length l) h.1, h.2))
+comes_from (ends.BadMagic t) before now taken rest kept at rose f place h = (h.0, omega (arith, ap (λ (l : List ℕ). length l) h.1, h.2), refl)
+comes_from (ends.TooLong t) before now taken rest kept at rose f place h = (h.0, omega (arith, ap (λ (l : List ℕ). length l) h.1, h.2), refl)
+comes_from (ends.Torn t) before now taken rest kept at rose f place h = absurd h
 comes_from ends.Limit before now taken rest kept at rose f place h = absurd h
 comes_from ends.ReadFault before now taken rest kept at rose f place h = absurd h
 comes_from ends.WriteFault before now taken rest kept at rose f place h = f h
+comes_from ends.Quit before now taken rest kept at rose f place h = refl
 comes_from ends.Closed before now taken rest kept at rose f place h = absurd h
 
 not_bad_words : (end : End) (rest kept : List ℕ) (at : ℕ) (rose : Type 0) → HasStopped end rest kept at rose → end ≢ ends.BadWords
@@ -95,7 +98,7 @@ not_bad_words end rest kept at rose h e = subst (λ (x : End). HasStopped x rest
 
 pub stops_in_frames : (end : End) (before mid now : Outside) (count n at : ℕ) (rest fed rest' : List ℕ) (front front' : Front)
     → Progress before mid count rest front → Feeds (got.Bytes n) rest fed mid.left now.left
-    → Breaks end (stand fed front mid.held mid.moment) (stand rest' front' now.held now.moment) at (Rose mid.write_faults now.write_faults)
+    → Breaks end (stand fed front mid.held mid.moment false) (stand rest' front' now.held now.moment false) at (Rose mid.write_faults now.write_faults)
     → IsLegal start front'.history → at + length rest' ≡ count + n
     → Stops before now end front'
 stops_in_frames end before mid now count n at rest fed rest' front front' p f b legal place =
@@ -119,15 +122,16 @@ stops_in_frames end before mid now count n at rest fed rest' front front' p f b 
 
 -- a session stops where all whole frames were answered, and nothing more was taken
 stops_here : (end : End) (before mid now : Outside) (count : ℕ) (rest : List ℕ) (front : Front) (p : Progress before mid count rest front)
-    → Takes before.left now.left p.taken → now.held ≡ mid.held → ((k : ℕ) → now.moment k ≡ mid.moment k) → end ≢ ends.BadWords → Comes before now p.taken rest end
+    → Takes before.left now.left p.taken → now.held ≡ mid.held → ((k : ℕ) → now.moment k ≡ mid.moment k) → end ≢ ends.BadWords → is_quit_end end ≡ false → Comes before now p.taken rest (is_quit_end end) end
     → Stops before now end front
-stops_here end before mid now count rest front p takes held moment served comes = record {
+stops_here end before mid now count rest front p takes held moment served none comes = record {
   taken = p.taken;
   rest = rest;
-  pending = front.answers.bytes;
+  pending = front.conn.out.bytes;
   moment = mid.moment;
   takes = takes;
-  serves = subst (λ (h : Option (List ℕ)). Serves (begin before p.taken) (record { rest = rest; history = front.history; pending = front.answers.bytes; held = h; moment = mid.moment })) (sym held) p.serves;
+  serves = subst (λ (h : Option (List ℕ)). Serves (begin before p.taken) (stand rest front h mid.moment (is_quit_end end))) (sym held)
+    (subst (λ (q : Bool). Serves (begin before p.taken) (stand rest front mid.held mid.moment q)) (sym none) p.serves);
   kept = λ _. refl;
   extra = 0;
   few = omega arith;
@@ -144,28 +148,43 @@ takes_on a b c x y p q e = subst (λ (l : List ℕ). Takes a c l) (ap (λ l. x +
 
 pub stops_at_limit : (before now : Outside) (count : ℕ) (rest : List ℕ) (front : Front) → Progress before now count rest front → count ≡ MAX_TAKEN → Stops before now ends.Limit front
 stops_at_limit before now count rest front p full =
-    stops_here ends.Limit before now now count rest front p p.takes refl (λ _. refl) (λ e. cc) (record { partial = p.partial; going = p.going }, p.counted ∙ full)
+    stops_here ends.Limit before now now count rest front p p.takes refl (λ _. refl) (λ e. cc) refl (record { partial = p.partial; going = p.going }, p.counted ∙ full, refl)
 
 pub stops_at_fault : (before mid now : Outside) (count : ℕ) (rest fed : List ℕ) (front : Front)
     → Progress before mid count rest front → Feeds got.Failed rest fed mid.left now.left → now.held ≡ mid.held → ((k : ℕ) → now.moment k ≡ mid.moment k)
     → now.has_ended ≡ mid.has_ended → Rose mid.read_faults now.read_faults → count < MAX_TAKEN
     → Stops before now ends.ReadFault front
 stops_at_fault before mid now count rest fed front p f held moment going rose under =
-    stops_here ends.ReadFault before mid now count rest front p (takes_on _ _ _ _ _ p.takes f.takes f.count) held moment (λ e. cc)
-    (record { partial = p.partial; going = going ∙ p.going }, omega (arith, p.counted), rose_from _ _ _ p.read_faults rose)
+    stops_here ends.ReadFault before mid now count rest front p (takes_on _ _ _ _ _ p.takes f.takes f.count) held moment (λ e. cc) refl (record { partial = p.partial; going = going ∙ p.going }, omega (arith, p.counted), rose_from _ _ _ p.read_faults rose, refl)
 
 fed_nothing : (rest fed piece : List ℕ) → fed ≡ rest ++ piece → length piece ≡ 0 → fed ≡ rest
 fed_nothing rest fed piece e none = e ∙ ap (λ l. rest ++ l) (no_bytes piece none) ∙ append-nil rest
 
 ends_from : (end : End) (before now : Outside) (taken rest : List ℕ) (held : FeederData) → HasEnded now taken → IsPartial rest → held.rest ≡ rest → held.at + length rest ≡ length taken
-    → EndsAt held end → Comes before now taken rest end
+    → EndsAt held end → Comes before now taken rest (is_quit_end end) end
 ends_from ends.BadWords before now taken rest held ended partial same place h = absurd h
 ends_from ends.NoMemory before now taken rest held ended partial same place h = absurd h
-ends_from (ends.Torn t) before now taken rest held ended partial same place h = (inr (ended, partial, λ e. h.0 (same ∙ e)), omega (arith, h.1))
+ends_from (ends.BadMagic t) before now taken rest held ended partial same place h = absurd h
+ends_from (ends.TooLong t) before now taken rest held ended partial same place h = absurd h
+ends_from (ends.Torn t) before now taken rest held ended partial same place h = (ended, partial, (λ e. h.0 (same ∙ e)), omega (arith, h.1), refl)
 ends_from ends.Limit before now taken rest held ended partial same place h = absurd h
 ends_from ends.ReadFault before now taken rest held ended partial same place h = absurd h
 ends_from ends.WriteFault before now taken rest held ended partial same place h = absurd h
-ends_from ends.Closed before now taken rest held ended partial same place h = (ended, sym same ∙ h)
+ends_from ends.Quit before now taken rest held ended partial same place h = absurd h
+ends_from ends.Closed before now taken rest held ended partial same place h = (ended, sym same ∙ h, refl)
+
+-- input that ends is no Quit
+no_quit : (held : FeederData) (end : End) → EndsAt held end → is_quit_end end ≡ false
+no_quit held ends.BadWords h = refl
+no_quit held ends.NoMemory h = refl
+no_quit held (ends.BadMagic t) h = refl
+no_quit held (ends.TooLong t) h = refl
+no_quit held (ends.Torn t) h = refl
+no_quit held ends.Limit h = refl
+no_quit held ends.ReadFault h = refl
+no_quit held ends.WriteFault h = refl
+no_quit held ends.Quit h = absurd h
+no_quit held ends.Closed h = refl
 
 no_bad_words : (held : FeederData) (end : End) → EndsAt held end → end ≢ ends.BadWords
 no_bad_words held end h e = subst (λ (x : End). EndsAt held x) e h
@@ -175,7 +194,7 @@ pub stops_at_end : (end : End) (before mid now : Outside) (count : ℕ) (rest : 
     → now.has_ended ≡ true → IsEmptied now.left → count < MAX_TAKEN → held.at + length rest ≡ count → EndsAt held end
     → Stops before now end front
 stops_at_end end before mid now count rest held front p f same moment ended emptied under place at =
-    stops_here end before mid now count rest front p (takes_on _ _ _ _ _ p.takes f.takes f.count) same moment (no_bad_words held end at)
+    stops_here end before mid now count rest front p (takes_on _ _ _ _ _ p.takes f.takes f.count) same moment (no_bad_words held end at) (no_quit held end at)
     (ends_from end before now p.taken rest held (record { ended = ended; emptied = emptied; under = omega (arith, p.counted) }) p.partial
     (fed_nothing rest held.rest f.piece f.fed f.count) (place ∙ sym p.counted) at)
 
@@ -195,6 +214,8 @@ progress_none before rest front none fresh sound = record {
     each = tt;
     noted = fresh.history;
     texts = fresh.answers;
+      features = ap (λ (b : Bool). let f : Features = record { seqno = b } in f) fresh.features;
+      quits = refl;
     wrote = appends_nothing before.held;
     moments = tt;
     asked = λ k. ap before.moment (sym (zero-add k));

@@ -1,5 +1,5 @@
 -- How a session goes on: what was served and written adds up.
-use Rattle.std.proofs.Common.{◌≡◌, ◌≢◌, ℕ, ◌+◌, ◌≤◌, List, [], ◌∷◌, ◌++◌, length, drop, map, refl, sym, ap, subst, ◌∙◌, Option, None, Some, IfSome, arith, append_assoc, append-nil, length-append, add-zero, zero-add}
+use Rattle.std.proofs.Common.{◌≡◌, ◌≢◌, ℕ, Bool, true, false, ◌+◌, ◌≤◌, List, [], ◌∷◌, ◌++◌, length, drop, map, refl, sym, ap, subst, ◌∙◌, Option, None, Some, IfSome, arith, append_assoc, append-nil, length-append, add-zero, zero-add}
 use Rattle.std.proofs.lemmas.List.{map-append, take-append-drop, length-drop, length-take}
 use Rattle.std.proofs.lemmas.Grind.{flat_map-append}
 use Rattle.std.specs.List.{AllByRecursion, concat, flat_map}
@@ -11,14 +11,17 @@ use Rattle.mcbp_frame.specs.declared.feeder.Next.{Next}
 use Rattle.mcbp_frame.specs.declared.feeder.Next.TheVariants as nexts
 use Rattle.mcbp_frame.specs.Feeder.{first_frame, after_next}
 use Rattle.mcbp_frame.specs.declared.frame.FrameData.{FrameData}
+use Rattle.mcbp_frame.specs.Division.{HasBadMagic, IsTooLong}
+use Rattle.conn_core.specs.declared.hello.Features.{Features}
+use Rattle.conn_core.specs.Acts.{features_after}
 use Rattle.mcbp_frame.specs.Frames.{IsFrame, frame_at, frame_data, frame_length}
 use Rattle.mcbp_frame.proofs.DivisionLemmas.{first_whole, frame_length_front}
 use Rattle.ep_top.specs.declared.end.End.{End}
 use Rattle.ep_top.specs.declared.end.End.TheVariants as ends
 use Rattle.ep_top.specs.declared.front.Front.{Front}
-use Rattle.ep_top.specs.Exchange.{Exchange, event_of, text_of, AreMoments}
+use Rattle.ep_top.specs.Exchange.{Exchange, event_of, text_of, texts_of, features_of, act_in, is_quit, frame_of, StopsAtQuit, AreMoments}
 use Rattle.ep_top.specs.Front.{Answered}
-use Rattle.ep_top.specs.Stand.{Stand, stand, bytes_of, Serves, Writes, IsFaulty, HasStopped, Breaks}
+use Rattle.ep_top.specs.Stand.{Stand, stand, bytes_of, Serves, Writes, is_quit_end, HasStopped, Breaks}
 
 pub appends_nothing : (held : Option (List ℕ)) → Appends held held []
 appends_nothing None = refl
@@ -49,6 +52,20 @@ moments-shift m later d n (x ∷ xs) e p =
 bytes_of-append : (xs ys : List Exchange) → concat (bytes_of (xs ++ ys)) ≡ concat (bytes_of xs) ++ concat (bytes_of ys)
 bytes_of-append xs ys = ap concat (map-append (λ (x : Exchange). x.bytes) xs ys) ∙ concat-append (bytes_of xs) (bytes_of ys)
 
+texts_of-append : (features : Features) (xs ys : List Exchange) → texts_of features (xs ++ ys) ≡ texts_of features xs ++ texts_of (features_of features xs) ys
+texts_of-append features [] ys = refl
+texts_of-append features (x ∷ xs) ys =
+    ap (λ l. text_of features x ++ l) (texts_of-append (features_after features (frame_of x)) xs ys)
+    ∙ sym (append_assoc (text_of features x) (texts_of (features_after features (frame_of x)) xs) (texts_of (features_of (features_after features (frame_of x)) xs) ys))
+
+features_of-append : (features : Features) (xs ys : List Exchange) → features_of features (xs ++ ys) ≡ features_of (features_of features xs) ys
+features_of-append features [] ys = refl
+features_of-append features (x ∷ xs) ys = features_of-append (features_after features (frame_of x)) xs ys
+
+quits-append : (a b c : Bool) (xs ys : List Exchange) → StopsAtQuit a xs b → StopsAtQuit b ys c → StopsAtQuit a (xs ++ ys) c
+quits-append a b c [] ys p q = subst (λ (x : Bool). StopsAtQuit x ys c) p q
+quits-append a b c (x ∷ xs) ys p q = (p.0, quits-append (is_quit (act_in (frame_of x))) b c xs ys p.1 q)
+
 -- nothing was served and nothing written
 pub serves_nothing : (s : Stand) → Serves s s
 serves_nothing s = record {
@@ -58,6 +75,8 @@ serves_nothing s = record {
   each = tt;
   noted = sym (append-nil s.history);
   texts = sym (append-nil s.pending);
+  features = refl;
+  quits = refl;
   wrote = appends_nothing s.held;
   moments = tt;
   asked = λ k. ap s.moment (sym (zero-add k));
@@ -68,25 +87,26 @@ serves_then a b c p q = record {
   served = p.served ++ q.served;
   written = p.written ++ q.written;
   rest =
-      p.rest ∙ ap (λ l. concat (bytes_of p.served) ++ l) q.rest ∙ sym (append_assoc (concat (bytes_of p.served)) (concat (bytes_of q.served)) c.rest)
-      ∙ ap (λ l. l ++ c.rest) (sym (bytes_of-append p.served q.served));
+    p.rest ∙ ap (λ l. concat (bytes_of p.served) ++ l) q.rest ∙ sym (append_assoc (concat (bytes_of p.served)) (concat (bytes_of q.served)) c.rest)
+    ∙ ap (λ l. l ++ c.rest) (sym (bytes_of-append p.served q.served));
   each = subst (λ (l : List (List ℕ)). AllByRecursion IsFrame l) (sym (map-append (λ (x : Exchange). x.bytes) p.served q.served)) (all-append IsFrame (bytes_of p.served) (bytes_of q.served) p.each q.each);
   noted =
-      q.noted ∙ ap (λ l. l ++ flat_map event_of q.served) p.noted ∙ append_assoc a.history (flat_map event_of p.served) (flat_map event_of q.served)
-      ∙ ap (λ l. a.history ++ l) (sym (flat_map-append event_of p.served q.served));
+    q.noted ∙ ap (λ l. l ++ flat_map event_of q.served) p.noted ∙ append_assoc a.history (flat_map event_of p.served) (flat_map event_of q.served)
+    ∙ ap (λ l. a.history ++ l) (sym (flat_map-append event_of p.served q.served));
   texts =
-      append_assoc p.written q.written c.pending ∙ ap (λ l. p.written ++ l) q.texts ∙ sym (append_assoc p.written b.pending (flat_map text_of q.served))
-      ∙ ap (λ l. l ++ flat_map text_of q.served) p.texts ∙ append_assoc a.pending (flat_map text_of p.served) (flat_map text_of q.served)
-      ∙ ap (λ l. a.pending ++ l) (sym (flat_map-append text_of p.served q.served));
+    append_assoc p.written q.written c.pending ∙ ap (λ l. p.written ++ l) q.texts ∙ sym (append_assoc p.written b.pending (texts_of b.features q.served))
+    ∙ ap (λ l. l ++ texts_of b.features q.served) p.texts ∙ append_assoc a.pending (texts_of a.features p.served) (texts_of b.features q.served)
+    ∙ ap (λ l. a.pending ++ l) (ap (λ (f : Features). texts_of a.features p.served ++ texts_of f q.served) p.features ∙ sym (texts_of-append a.features p.served q.served));
+  features = q.features ∙ ap (λ (f : Features). features_of f q.served) p.features ∙ sym (features_of-append a.features p.served q.served);
+  quits = quits-append a.quit b.quit c.quit p.served q.served p.quits q.quits;
   wrote = appends_then a.held b.held c.held p.written q.written p.wrote q.wrote;
   moments = moments-append a.moment 0 p.served q.served p.moments
-      (let e : length p.served + 0 ≡ 0 + length p.served = omega arith in subst (λ k. AreMoments a.moment k q.served) e (moments-shift a.moment b.moment (length p.served) 0 q.served p.asked q.moments));
+    (let e : length p.served + 0 ≡ 0 + length p.served = omega arith in subst (λ k. AreMoments a.moment k q.served) e (moments-shift a.moment b.moment (length p.served) 0 q.served p.asked q.moments));
   asked = λ k. q.asked k ∙ p.asked (length q.served + k) ∙ ap a.moment (omega (arith, length-append p.served q.served));
 }
 
 -- some of the pending answers were written
-pub serves_writes : (s : Stand) (left : List ℕ) (held : Option (List ℕ)) → Writes s.pending left s.held held
-    → Serves s (record { rest = s.rest; history = s.history; pending = left; held = held; moment = s.moment })
+pub serves_writes : (s : Stand) (left : List ℕ) (held : Option (List ℕ)) → Writes s.pending left s.held held → Serves s (record s { pending = left; held = held })
 serves_writes s left held w = record {
   served = [];
   written = w.written;
@@ -94,77 +114,33 @@ serves_writes s left held w = record {
   each = tt;
   noted = sym (append-nil s.history);
   texts = sym w.parts ∙ sym (append-nil s.pending);
+  features = refl;
+  quits = refl;
   wrote = w.wrote;
   moments = tt;
   asked = λ k. ap s.moment (sym (zero-add k));
 }
 
 -- one frame was answered
-pub serves_answer : (bytes rest more : List ℕ) (at : ℕ) (old new : Front) (held : Option (List ℕ)) (m later : ℕ → Option ℕ)
-    → IsFrame bytes → rest ≡ bytes ++ more → Answered (frame_at bytes at) m later old new → Serves (stand rest old held m) (stand more new held later)
-serves_answer bytes rest more at old new held m later frame split a = record {
+pub serves_answer : (bytes rest more : List ℕ) (at : ℕ) (old new : Front) (held : Option (List ℕ)) (m later : ℕ → Option ℕ) (quit : Bool)
+    → IsFrame bytes → rest ≡ bytes ++ more → Answered (frame_at bytes at) m later quit old new → Serves (stand rest old held m false) (stand more new held later quit)
+serves_answer bytes rest more at old new held m later quit frame split a = record {
   served = (record { bytes = bytes; now = a.now; reply = a.reply; value = a.value }) ∷ [];
   written = [];
   rest = split ∙ ap (λ l. l ++ more) (sym (append-nil bytes));
   each = (frame, tt);
   noted = a.noted ∙ ap (λ l. old.history ++ l) (sym (append-nil _));
-  texts = a.text ∙ ap (λ l. old.answers.bytes ++ l) (sym (append-nil _));
+  texts = a.text ∙ ap (λ l. old.conn.out.bytes ++ l) (sym (append-nil _));
+  features = a.features;
+  quits = (refl, sym a.quits);
   wrote = appends_nothing held;
   moments = (a.told, tt);
   asked = a.asked;
 }
 
 -- serving stopped where it stands
-pub breaks_here : (end : End) (old new : Stand) (at : ℕ) (rose : Type 0) → Serves old new → HasStopped end new.rest new.rest at rose → Breaks end old new at rose
-breaks_here end old new at rose p why = record { rest = new.rest; pending = new.pending; moment = new.moment; serves = p; kept = λ _. refl; extra = 0; few = omega arith; exact = λ _. refl; asked = λ k. ap new.moment (sym (zero-add k)); why = why }
-
--- a fault of writing lost some of the pending answers
-pub breaks_fault : (old new : Stand) (lost kept : List ℕ) (held : Option (List ℕ)) (at : ℕ) (rose : Type 0) → Serves old new → Writes new.pending lost new.held held → rose
-    → Breaks ends.WriteFault old (record { rest = new.rest; history = new.history; pending = kept; held = held; moment = new.moment }) at rose
-breaks_fault old new lost kept held at rose p w why = record {
-  rest = new.rest;
-  pending = lost;
-  moment = new.moment;
-  serves = serves_then old new _ p (serves_writes new lost held w);
-  kept = λ h. absurd (h refl);
-  extra = 0;
-  few = omega arith;
-  exact = λ _. refl;
-  asked = λ k. ap new.moment (sym (zero-add k));
-  why = why;
-}
-
--- memory was wanting for the frame that was handed out, behind some answers that were written
-pub breaks_memory_at : (here : Stand) (more pending : List ℕ) (held : Option (List ℕ)) (new : Front) (later : ℕ → Option ℕ) (at : ℕ) (rose : Type 0)
-    → Writes here.pending pending here.held held → new.history ≡ here.history → new.answers.bytes ≡ pending → ((k : ℕ) → later k ≡ here.moment (k + 1))
-    → Breaks ends.NoMemory here (stand more new held later) at rose
-breaks_memory_at here more pending held new later at rose w history same asked = record {
-  rest = here.rest;
-  pending = new.answers.bytes;
-  moment = here.moment;
-  serves = record {
-    served = [];
-    written = w.written;
-    rest = refl;
-    each = tt;
-    noted = history ∙ sym (append-nil here.history);
-    texts = ap (λ l. w.written ++ l) same ∙ sym w.parts ∙ sym (append-nil here.pending);
-    wrote = w.wrote;
-    moments = tt;
-    asked = λ k. ap here.moment (sym (zero-add k));
-  };
-  kept = λ _. refl;
-  extra = 1;
-  few = omega arith;
-  exact = λ h. absurd (h refl);
-  asked = λ k. asked k ∙ ap here.moment (omega arith);
-  why = tt;
-}
-
--- what a feeder holds is no request
-pub breaks_torn : (held later : FeederData) (old new : Stand) (place : ℕ) (rose : Type 0) → Serves old new → new.rest ≡ later.rest → later ≡ held → IsFaulty held.rest → place ≡ held.at
-    → Breaks (ends.Torn place) old new later.at rose
-breaks_torn held later old new place rose p rest same faulty at = record {
+pub breaks_here : (end : End) (old new : Stand) (at : ℕ) (rose : Type 0) → Serves old (record new { quit = is_quit_end end }) → HasStopped end new.rest new.rest at rose → Breaks end old new at rose
+breaks_here end old new at rose p why = record {
   rest = new.rest;
   pending = new.pending;
   moment = new.moment;
@@ -174,16 +150,77 @@ breaks_torn held later old new place rose p rest same faulty at = record {
   few = omega arith;
   exact = λ _. refl;
   asked = λ k. ap new.moment (sym (zero-add k));
-  why = (subst (λ (l : List ℕ). IsFaulty l) (sym (rest ∙ ap (λ (x : FeederData). x.rest) same)) faulty, refl, at ∙ sym (ap (λ (x : FeederData). x.at) same));
+  why = why;
 }
+
+-- a fault of writing lost some of the pending answers
+pub breaks_fault : (old new : Stand) (lost kept : List ℕ) (held : Option (List ℕ)) (at : ℕ) (rose : Type 0) → Serves old new → new.quit ≡ false → Writes new.pending lost new.held held → rose
+    → Breaks ends.WriteFault old (record new { pending = kept; held = held }) at rose
+breaks_fault old new lost kept held at rose p none w why = record {
+  rest = new.rest;
+  pending = lost;
+  moment = new.moment;
+  serves = subst (λ (q : Bool). Serves old (record new { pending = lost; held = held; quit = q })) none (serves_then old new _ p (serves_writes new lost held w));
+  kept = λ h. absurd (h refl);
+  extra = 0;
+  few = omega arith;
+  exact = λ _. refl;
+  asked = λ k. ap new.moment (sym (zero-add k));
+  why = why;
+}
+
+-- memory was wanting for the frame that was handed out, behind some answers that were written
+pub breaks_memory_at : (rest more : List ℕ) (old new : Front) (left : List ℕ) (held now : Option (List ℕ)) (m later : ℕ → Option ℕ) (at : ℕ) (rose : Type 0)
+    → Writes old.conn.out.bytes left held now → new.history ≡ old.history → new.conn.out.bytes ≡ left → new.conn.features ≡ old.conn.features → ((k : ℕ) → later k ≡ m (k + 1))
+    → Breaks ends.NoMemory (stand rest old held m false) (stand more new now later false) at rose
+breaks_memory_at rest more old new left held now m later at rose w history same features asked = record {
+  rest = rest;
+  pending = new.conn.out.bytes;
+  moment = m;
+  serves = record {
+    served = [];
+    written = w.written;
+    rest = refl;
+    each = tt;
+    noted = history ∙ sym (append-nil old.history);
+    texts = ap (λ l. w.written ++ l) same ∙ sym w.parts ∙ sym (append-nil old.conn.out.bytes);
+    features = features;
+    quits = refl;
+    wrote = w.wrote;
+    moments = tt;
+    asked = λ k. ap m (sym (zero-add k));
+  };
+  kept = λ _. refl;
+  extra = 1;
+  few = omega arith;
+  exact = λ h. absurd (h refl);
+  asked = λ k. asked k ∙ ap m (omega arith);
+  why = tt;
+}
+
+-- what a feeder holds begins no request, or says a body that is too long
+pub breaks_bad_magic : (held later : FeederData) (old new : Stand) (place : ℕ) (rose : Type 0) → Serves old new → new.quit ≡ false → new.rest ≡ later.rest → later ≡ held → HasBadMagic held.rest → place ≡ held.at
+    → Breaks (ends.BadMagic place) old new later.at rose
+breaks_bad_magic held later old new place rose p none rest same bad at =
+    breaks_here (ends.BadMagic place) old new later.at rose (subst (λ (q : Bool). Serves old (record new { quit = q })) none p)
+      (subst (λ (l : List ℕ). HasBadMagic l) (sym (rest ∙ ap (λ (x : FeederData). x.rest) same)) bad, refl, at ∙ sym (ap (λ (x : FeederData). x.at) same))
+
+pub breaks_too_long : (held later : FeederData) (old new : Stand) (place : ℕ) (rose : Type 0) → Serves old new → new.quit ≡ false → new.rest ≡ later.rest → later ≡ held → IsTooLong held.rest → place ≡ held.at
+    → Breaks (ends.TooLong place) old new later.at rose
+breaks_too_long held later old new place rose p none rest same bad at =
+    breaks_here (ends.TooLong place) old new later.at rose (subst (λ (q : Bool). Serves old (record new { quit = q })) none p)
+      (subst (λ (l : List ℕ). IsTooLong l) (sym (rest ∙ ap (λ (x : FeederData). x.rest) same)) bad, refl, at ∙ sym (ap (λ (x : FeederData). x.at) same))
 
 still_stopped : (end : End) (rest kept : List ℕ) (at : ℕ) (rose later : Type 0) → (rose → later) → HasStopped end rest kept at rose → HasStopped end rest kept at later
 still_stopped ends.BadWords rest kept at rose later f h = h
 still_stopped ends.NoMemory rest kept at rose later f h = h
+still_stopped (ends.BadMagic place) rest kept at rose later f h = h
+still_stopped (ends.TooLong place) rest kept at rose later f h = h
 still_stopped (ends.Torn place) rest kept at rose later f h = h
 still_stopped ends.Limit rest kept at rose later f h = h
 still_stopped ends.ReadFault rest kept at rose later f h = h
 still_stopped ends.WriteFault rest kept at rose later f h = f h
+still_stopped ends.Quit rest kept at rose later f h = h
 still_stopped ends.Closed rest kept at rose later f h = h
 
 pub breaks_then : (end : End) (a b c : Stand) (at : ℕ) (rose later : Type 0) → Serves a b → (rose → later) → Breaks end b c at rose → Breaks end a c at later
@@ -222,24 +259,26 @@ place_first held later n frame f is e =
     omega (arith, length-drop (frame_length held.rest) held.rest)
 
 -- the frame that a feeder handed out was answered
-pub serves_first : (held later : FeederData) (n : Next) (frame : Frame) (old new : Front) (sink : Option (List ℕ)) (m next : ℕ → Option ℕ)
+pub serves_first : (held later : FeederData) (n : Next) (frame : Frame) (old new : Front) (sink : Option (List ℕ)) (m next : ℕ → Option ℕ) (quit : Bool)
     → IsFrame (first_frame held.rest) → frame_data frame ≡ frame_at (first_frame held.rest) held.at → n ≡ nexts.Frame frame → later ≡ after_next held n
-    → Answered (frame_data frame) m next old new → Serves (stand held.rest old sink m) (stand later.rest new sink next)
-serves_first held later n frame old new sink m next f same is e a =
-    serves_answer (first_frame held.rest) held.rest later.rest held.at old new sink m next f (split_first held later n frame is e)
-    (subst (λ (x : FrameData). Answered x m next old new) same a)
+    → Answered (frame_data frame) m next quit old new → Serves (stand held.rest old sink m false) (stand later.rest new sink next quit)
+serves_first held later n frame old new sink m next quit f same is e a =
+    serves_answer (first_frame held.rest) held.rest later.rest held.at old new sink m next quit f (split_first held later n frame is e)
+      (subst (λ (x : FrameData). Answered x m next quit old new) same a)
 
 -- A feeder that hands out no frame holds what it held, and nothing was served but that some answers were written.
 pub serves_none : (held later : FeederData) (n : Next) (old new : Front) (sink now : Option (List ℕ)) (m : ℕ → Option ℕ)
-    → later ≡ after_next held n → after_next held n ≡ held → new.history ≡ old.history → Writes old.answers.bytes new.answers.bytes sink now
-    → Serves (stand held.rest old sink m) (stand later.rest new now m)
-serves_none held later n old new sink now m e same history w = record {
+    → later ≡ after_next held n → after_next held n ≡ held → new.history ≡ old.history → new.conn.features ≡ old.conn.features → Writes old.conn.out.bytes new.conn.out.bytes sink now
+    → Serves (stand held.rest old sink m false) (stand later.rest new now m false)
+serves_none held later n old new sink now m e same history features w = record {
   served = [];
   written = w.written;
   rest = sym (ap (λ (x : FeederData). x.rest) (e ∙ same));
   each = tt;
   noted = history ∙ sym (append-nil old.history);
-  texts = sym w.parts ∙ sym (append-nil old.answers.bytes);
+  texts = sym w.parts ∙ sym (append-nil old.conn.out.bytes);
+  features = features;
+  quits = refl;
   wrote = w.wrote;
   moments = tt;
   asked = λ k. ap m (sym (zero-add k));

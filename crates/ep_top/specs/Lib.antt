@@ -1,3 +1,4 @@
+pub mod Calls
 pub mod End
 pub mod Exchange
 pub mod Front

@@ -6,16 +6,16 @@ use Rattle.ep_model.specs.History.{IsLegal}
 use Rattle.ep_model.specs.declared.data.EventData.{EventData}
 use Rattle.ep_model.specs.declared.data.EventData.TheVariants.{Opened}
 use Rattle.ep_edge.specs.Edge.{Takes, Rose, IsEmptied, Appends}
-use Rattle.mcbp_frame.specs.Division.{Divides, IsPartial}
+use Rattle.mcbp_frame.specs.Division.{Divides, HasBadMagic, IsTooLong, IsPartial}
 use Rattle.mcbp_frame.specs.declared.feeder.FeederData.{FeederData}
 use Rattle.ep_top.specs.declared.end.End.{End}
 use Rattle.ep_top.specs.declared.end.End.TheVariants as ends
 use Rattle.ep_top.specs.declared.front.Front.{Front}
 use Rattle.ep_top.specs.declared.session.TheConstants.{MAX_TAKEN}
-use Rattle.ep_top.specs.Exchange.{Exchange, event_of, text_of, AreMoments}
+use Rattle.ep_top.specs.Exchange.{Exchange, event_of, texts_of, StopsAtQuit, AreMoments}
 use Rattle.ep_top.specs.Front.{start, IsSound}
 use Rattle.ep_top.specs.Outside.{Outside}
-use Rattle.ep_top.specs.Stand.{Stand, stand, bytes_of, Serves, Writes, IsFaulty}
+use Rattle.ep_top.specs.Stand.{Stand, stand, bytes_of, Serves, Writes, is_quit_end}
 
 -- the source answered its end after fewer bytes than a session takes, and nothing was left
 pub record HasEnded (now : Outside) (taken : List ℕ) : Type 0 where
@@ -32,31 +32,40 @@ pub record MayGoOn (before now : Outside) (rest : List ℕ) : Type 0 where
 abbrev pub is_cut : End → Bool
 is_cut ends.BadWords = false
 is_cut ends.NoMemory = true
+is_cut (ends.BadMagic at) = false
+is_cut (ends.TooLong at) = false
 is_cut (ends.Torn at) = false
 is_cut ends.Limit = false
 is_cut ends.ReadFault = false
 is_cut ends.WriteFault = true
+is_cut ends.Quit = false
 is_cut ends.Closed = false
 
--- When each end comes, by the bytes taken and by what of them is no frame. One end excludes the others, but
--- that want of memory is free, and that a fault of writing comes in place of another.
-abbrev pub Comes : Outside → Outside → List ℕ → List ℕ → End → Type 0
-Comes before now taken rest ends.BadWords = taken ≡ []
-Comes before now taken rest ends.NoMemory = Unit {0}
-Comes before now taken rest (ends.Torn at) = (IsFaulty rest ⊎ (HasEnded now taken × IsPartial rest × (rest ≢ []))) × (at + length rest ≡ length taken)
-Comes before now taken rest ends.Limit = MayGoOn before now rest × (length taken ≡ MAX_TAKEN)
-Comes before now taken rest ends.ReadFault = MayGoOn before now rest × (length taken < MAX_TAKEN) × Rose before.read_faults now.read_faults
-Comes before now taken rest ends.WriteFault = Rose before.write_faults now.write_faults
-Comes before now taken rest ends.Closed = HasEnded now taken × (rest ≡ [])
+-- When each end comes, by the bytes taken, by what of them is no frame, and by whether a Quit was served. One end
+-- excludes the others, but that want of memory is free, and that a fault of writing comes in place of another.
+abbrev pub Comes : Outside → Outside → List ℕ → List ℕ → Bool → End → Type 0
+Comes before now taken rest quit ends.BadWords = (taken ≡ []) × (quit ≡ false)
+Comes before now taken rest quit ends.NoMemory = Unit {0}
+Comes before now taken rest quit (ends.BadMagic at) = HasBadMagic rest × (at + length rest ≡ length taken) × (quit ≡ false)
+Comes before now taken rest quit (ends.TooLong at) = IsTooLong rest × (at + length rest ≡ length taken) × (quit ≡ false)
+Comes before now taken rest quit (ends.Torn at) = HasEnded now taken × IsPartial rest × (rest ≢ []) × (at + length rest ≡ length taken) × (quit ≡ false)
+Comes before now taken rest quit ends.Limit = MayGoOn before now rest × (length taken ≡ MAX_TAKEN) × (quit ≡ false)
+Comes before now taken rest quit ends.ReadFault = MayGoOn before now rest × (length taken < MAX_TAKEN) × Rose before.read_faults now.read_faults × (quit ≡ false)
+Comes before now taken rest quit ends.WriteFault = Rose before.write_faults now.write_faults
+Comes before now taken rest quit ends.Quit = quit ≡ true
+Comes before now taken rest quit ends.Closed = HasEnded now taken × (rest ≡ []) × (quit ≡ false)
 
 -- The history: it opens, and then has the one event of each frame that is a call. Before it opens there is none.
 abbrev pub IsNoted : End → List EventData → List Exchange → Type 0
 IsNoted ends.BadWords history served = (history ≡ []) × (served ≡ [])
 IsNoted ends.NoMemory history served = ((history ≡ []) × (served ≡ [])) ⊎ (history ≡ Opened ∷ flat_map event_of served)
+IsNoted (ends.BadMagic at) history served = history ≡ Opened ∷ flat_map event_of served
+IsNoted (ends.TooLong at) history served = history ≡ Opened ∷ flat_map event_of served
 IsNoted (ends.Torn at) history served = history ≡ Opened ∷ flat_map event_of served
 IsNoted ends.Limit history served = history ≡ Opened ∷ flat_map event_of served
 IsNoted ends.ReadFault history served = history ≡ Opened ∷ flat_map event_of served
 IsNoted ends.WriteFault history served = history ≡ Opened ∷ flat_map event_of served
+IsNoted ends.Quit history served = history ≡ Opened ∷ flat_map event_of served
 IsNoted ends.Closed history served = history ≡ Opened ∷ flat_map event_of served
 
 pub record IsSession (before now : Outside) (end : End) (history : List EventData) : Type 0 where
@@ -70,9 +79,11 @@ pub record IsSession (before now : Outside) (end : End) (history : List EventDat
   pub lost : List ℕ
   pub takes : Takes before.left now.left taken
   pub divided : Divides taken frames rest
-  -- the frames were served in order, all of them unless the end came between
+  -- the frames were served in order up to the first Quit, all of them unless the end came between
   pub in_order : frames ≡ bytes_of served ++ unserved
-  pub all : is_cut end ≡ false → unserved ≡ []
+  pub quit : Bool
+  pub stops_at_quit : StopsAtQuit false served quit
+  pub all : is_cut end ≡ false → quit ≡ false → unserved ≡ []
   -- the clock was asked once for each, and once more at most for a frame whose answer the end cut off
   pub moments : AreMoments before.moment 0 served
   pub extra : ℕ
@@ -84,9 +95,9 @@ pub record IsSession (before now : Outside) (end : End) (history : List EventDat
   pub legal : IsLegal start history
   -- what was written is the text of the answers, or after a fault of writing a front of it
   pub wrote : Appends before.held now.held written
-  pub texts : written ++ lost ≡ flat_map text_of served
+  pub texts : written ++ lost ≡ texts_of (record { seqno = false }) served
   pub whole : end ≢ ends.WriteFault → lost ≡ []
-  pub comes : Comes before now taken rest end
+  pub comes : Comes before now taken rest quit end
 
 -- the command line is the one word `session`
 abbrev pub IsSessionCommand : List (List ℕ) → Type 0
@@ -94,17 +105,17 @@ IsSessionCommand words = words ≡ codes "session" ∷ []
 
 -- a session that has taken these bytes and served none of them
 abbrev pub begin : Outside → List ℕ → Stand
-begin before taken = record { rest = taken; history = Opened ∷ []; pending = []; held = before.held; moment = before.moment }
+begin before taken = record { rest = taken; history = Opened ∷ []; pending = []; held = before.held; moment = before.moment; features = record { seqno = false }; quit = false }
 
 -- so many bytes were taken, and each whole frame among them was answered
 pub record Progress (before now : Outside) (count : ℕ) (rest : List ℕ) (front : Front) : Type 0 where
   pub taken : List ℕ
   pub counted : length taken ≡ count
   pub takes : Takes before.left now.left taken
-  pub serves : Serves (begin before taken) (stand rest front now.held now.moment)
+  pub serves : Serves (begin before taken) (stand rest front now.held now.moment false)
   pub sound : IsSound front
   pub partial : IsPartial rest
-  pub written : front.answers.bytes ≡ []
+  pub written : front.conn.out.bytes ≡ []
   pub going : now.has_ended ≡ before.has_ended
   pub read_faults : before.read_faults ≤ now.read_faults
   pub write_faults : before.write_faults ≤ now.write_faults
@@ -113,10 +124,13 @@ pub record Progress (before now : Outside) (count : ℕ) (rest : List ℕ) (fron
 abbrev pub EndsAt : FeederData → End → Type 0
 EndsAt held ends.BadWords = ⊥
 EndsAt held ends.NoMemory = ⊥
+EndsAt held (ends.BadMagic at) = ⊥
+EndsAt held (ends.TooLong at) = ⊥
 EndsAt held (ends.Torn at) = (held.rest ≢ []) × (at ≡ held.at)
 EndsAt held ends.Limit = ⊥
 EndsAt held ends.ReadFault = ⊥
 EndsAt held ends.WriteFault = ⊥
+EndsAt held ends.Quit = ⊥
 EndsAt held ends.Closed = held.rest ≡ []
 
 -- a session stops so, with answers that aren't written yet
@@ -126,14 +140,14 @@ pub record Stops (before now : Outside) (end : End) (front : Front) : Type 0 whe
   pub pending : List ℕ
   pub moment : ℕ → Option ℕ
   pub takes : Takes before.left now.left taken
-  pub serves : Serves (begin before taken) (record { rest = rest; history = front.history; pending = pending; held = now.held; moment = moment })
-  pub kept : end ≢ ends.WriteFault → pending ≡ front.answers.bytes
+  pub serves : Serves (begin before taken) (record { rest = rest; history = front.history; pending = pending; held = now.held; moment = moment; features = front.conn.features; quit = is_quit_end end })
+  pub kept : end ≢ ends.WriteFault → pending ≡ front.conn.out.bytes
   pub extra : ℕ
   pub few : extra ≤ 1
   pub exact : end ≢ ends.NoMemory → extra ≡ 0
   pub asked : (k : ℕ) → now.moment k ≡ moment (extra + k)
   pub legal : IsLegal start front.history
-  pub comes : Comes before now taken rest end
+  pub comes : Comes before now taken rest (is_quit_end end) end
   pub served : end ≢ ends.BadWords
 
 -- the answers that were pending as a session stopped were written

@@ -1,25 +1,29 @@
 -- How far a session is, and how it goes on from there.
-use Rattle.std.specs.Prelude.{◌≡◌, ◌≢◌, ◌⊎◌, ℕ, ◌+◌, ◌≤◌, List, [], ◌∷◌, ◌++◌, length, map, Option}
+use Rattle.std.specs.Prelude.{◌≡◌, ◌≢◌, ℕ, ◌+◌, ◌≤◌, Bool, true, false, List, [], ◌∷◌, ◌++◌, length, map, Option}
 use Rattle.std.specs.List.{AllByRecursion, concat, flat_map}
 use Rattle.ep_model.specs.declared.data.EventData.{EventData}
 use Rattle.ep_edge.specs.Edge.{Appends, Rose}
 use Rattle.mcbp_frame.specs.Frames.{IsFrame}
 use Rattle.mcbp_frame.specs.Division.{HasBadMagic, IsTooLong}
+use Rattle.conn_core.specs.declared.hello.Features.{Features}
 use Rattle.ep_top.specs.declared.end.End.{End}
 use Rattle.ep_top.specs.declared.end.End.TheVariants as ends
 use Rattle.ep_top.specs.declared.front.Front.{Front}
-use Rattle.ep_top.specs.Exchange.{Exchange, event_of, text_of, AreMoments}
+use Rattle.ep_top.specs.Exchange.{Exchange, event_of, texts_of, features_of, StopsAtQuit, AreMoments}
 
--- the bytes that were taken and aren't served, the history, the answers that aren't written, what sink and clock tell
+-- the bytes that were taken and aren't served, the history, the answers that aren't written, what sink and clock tell, the
+-- features, and whether a Quit was served
 pub record Stand : Type 0 where
   pub rest : List ℕ
   pub history : List EventData
   pub pending : List ℕ
   pub held : Option (List ℕ)
   pub moment : ℕ → Option ℕ
+  pub features : Features
+  pub quit : Bool
 
-abbrev pub stand : List ℕ → Front → Option (List ℕ) → (ℕ → Option ℕ) → Stand
-stand rest front held moment = record { rest = rest; history = front.history; pending = front.answers.bytes; held = held; moment = moment }
+abbrev pub stand : List ℕ → Front → Option (List ℕ) → (ℕ → Option ℕ) → Bool → Stand
+stand rest front held moment quit = record { rest = rest; history = front.history; pending = front.conn.out.bytes; held = held; moment = moment; features = front.conn.features; quit = quit }
 
 -- the bytes of these frames, one after the other
 abbrev pub bytes_of : List Exchange → List (List ℕ)
@@ -32,7 +36,9 @@ pub record Serves (old new : Stand) : Type 0 where
   pub rest : old.rest ≡ concat (bytes_of served) ++ new.rest
   pub each : AllByRecursion IsFrame (bytes_of served)
   pub noted : new.history ≡ old.history ++ flat_map event_of served
-  pub texts : written ++ new.pending ≡ old.pending ++ flat_map text_of served
+  pub texts : written ++ new.pending ≡ old.pending ++ texts_of old.features served
+  pub features : new.features ≡ features_of old.features served
+  pub quits : StopsAtQuit old.quit served new.quit
   pub wrote : Appends old.held new.held written
   pub moments : AreMoments old.moment 0 served
   pub asked : (k : ℕ) → new.moment k ≡ old.moment (length served + k)
@@ -43,19 +49,31 @@ pub record Writes (pending left : List ℕ) (old new : Option (List ℕ)) : Type
   pub parts : pending ≡ written ++ left
   pub wrote : Appends old new written
 
--- no frame can begin so
-abbrev pub IsFaulty : List ℕ → Type 0
-IsFaulty rest = HasBadMagic rest ⊎ IsTooLong rest
-
--- why serving stopped: want of memory, a fault of writing, or what stands at the place `at`
+-- why serving stopped: want of memory, a fault of writing, a Quit, or what stands at the place `at`
 abbrev pub HasStopped : End → List ℕ → List ℕ → ℕ → Type 0 → Type 0
 HasStopped ends.BadWords rest kept at rose = ⊥
 HasStopped ends.NoMemory rest kept at rose = Unit {0}
-HasStopped (ends.Torn place) rest kept at rose = IsFaulty rest × (rest ≡ kept) × (place ≡ at)
+HasStopped (ends.BadMagic place) rest kept at rose = HasBadMagic rest × (rest ≡ kept) × (place ≡ at)
+HasStopped (ends.TooLong place) rest kept at rose = IsTooLong rest × (rest ≡ kept) × (place ≡ at)
+HasStopped (ends.Torn place) rest kept at rose = ⊥
 HasStopped ends.Limit rest kept at rose = ⊥
 HasStopped ends.ReadFault rest kept at rose = ⊥
 HasStopped ends.WriteFault rest kept at rose = rose
+HasStopped ends.Quit rest kept at rose = Unit {0}
 HasStopped ends.Closed rest kept at rose = ⊥
+
+-- the end of a session that served a Quit
+abbrev pub is_quit_end : End → Bool
+is_quit_end ends.BadWords = false
+is_quit_end ends.NoMemory = false
+is_quit_end (ends.BadMagic at) = false
+is_quit_end (ends.TooLong at) = false
+is_quit_end (ends.Torn at) = false
+is_quit_end ends.Limit = false
+is_quit_end ends.ReadFault = false
+is_quit_end ends.WriteFault = false
+is_quit_end ends.Quit = true
+is_quit_end ends.Closed = false
 
 -- Serving stopped behind the last frame that was answered. After want of memory the clock may have been asked for
 -- one frame more, and after a fault of writing some of the pending answers are lost.
@@ -63,7 +81,7 @@ pub record Breaks (end : End) (old new : Stand) (at : ℕ) (rose : Type 0) : Typ
   pub rest : List ℕ
   pub pending : List ℕ
   pub moment : ℕ → Option ℕ
-  pub serves : Serves old (record { rest = rest; history = new.history; pending = pending; held = new.held; moment = moment })
+  pub serves : Serves old (record { rest = rest; history = new.history; pending = pending; held = new.held; moment = moment; features = new.features; quit = is_quit_end end })
   pub kept : end ≢ ends.WriteFault → pending ≡ new.pending
   pub extra : ℕ
   pub few : extra ≤ 1

@@ -1,38 +1,42 @@
-// What answers frames: the plain map, the history, and the answers that aren't written yet.
-ghost use Rattle.std.specs.Prelude.{◌≡◌, ◌+◌, ◌<◌, ◌≤◌, ◌^◌, ◌++◌, ℕ, List, [], length, Some, IfOk, OnOk, OnErr};
+// What answers frames: the plain map, the history, and the connection with the answers that aren't written yet.
+ghost use Rattle.std.specs.Prelude.{◌≡◌, ◌+◌, ◌<◌, ◌≤◌, ◌^◌, ◌++◌, ℕ, List, [], ◌∷◌, length, IfOk, OnOk, OnErr};
 ghost use Rattle.ep_edge.specs.Edge.{Rose};
 ghost use Rattle.ep_model.specs.History.{call_data};
 ghost use Rattle.ep_model.specs.Limits.{IsWithin};
+ghost use Rattle.ep_model.specs.declared.data.EventData.TheVariants.{Called};
 ghost use Rattle.mcbp_frame.specs.Frames.{frame_data};
+ghost use Rattle.mcbp_ops.specs.Text.{status_text, reply_text};
+ghost use Rattle.conn_core.specs.declared.conn.TheConstants.{VALUE_ROOM};
+ghost use Rattle.ep_top.specs.Calls.{Calls};
 ghost use Rattle.ep_top.specs.Stand.{Writes};
-ghost use Rattle.ep_top.specs.Exchange.{status_text, reply_text, shows_value};
+
+use std::alloc::Global;
+
+use conn_core::{Act, Conn, VALUE_ROOM};
+use ep_edge::{Clock, Put, Sink};
+use ep_model::{Call, NoMemory, Out, Plain, status};
+use mcbp_frame::{Frame, HEADER, put_response};
+use mcbp_ops::reply_text;
 
 use crate::history::History;
-use crate::request::served_call;
-use ep_edge::{Clock, Put, Sink};
-use ep_model::limits::MAX_VALUE;
-use ep_model::{Call, NoMemory, Out, Plain, Reply, status};
-use mcbp_frame::{Frame, HEADER, put_response};
-use std::alloc::Global;
+
+/// How many vBuckets there are.
+pub const VBUCKETS: u16 = 1;
 
 /// Above so many bytes answers are written before the next frame is served.
 pub const MAX_PENDING: usize = 1_048_576;
-
-/// The longest answer: a Get's, with 4 bytes of flags.
-pub const MAX_ANSWER: usize = HEADER + 4 + MAX_VALUE;
 
 #[derive(Drop)]
 pub struct Front {
     pub plain: Plain,
     pub history: History,
-    pub answers: Out,
-    pub value: Out,
+    pub conn: Conn,
 }
 
 impl Front {
-    ghost use Rattle.ep_top.specs.Front.{IsSound, IsFresh, Answered, Calls};
+    ghost use Rattle.ep_top.specs.Front.{IsSound, IsFresh, Answered};
 
-    /// An empty vBucket that has opened.
+    /// An empty vBucket that has opened, and a connection.
     pub fn open(alloc: Global) -> Result<Front, NoMemory>
         ensures fresh { IfOk result IsFresh }
         ensures sound { IfOk result IsSound }
@@ -42,110 +46,66 @@ impl Front {
         Ok(Front {
             plain: Plain::new(alloc),
             history,
-            answers: Out::new(alloc, MAX_PENDING + MAX_ANSWER)?,
-            value: Out::new(alloc, MAX_VALUE)?,
+            conn: Conn::new(alloc)?,
         })
     }
 
-    /// Answers one frame, and asks the clock once for it.
-    pub fn serve<C: Clock>(&mut self, frame: &Frame, clock: &mut C) -> Result<(), NoMemory>
+    /// Answers one frame, and asks the clock once for it. True where it was a Quit.
+    pub fn serve<C: Clock>(&mut self, frame: &Frame, clock: &mut C) -> Result<bool, NoMemory>
         requires sound { IsSound self.old }
-        requires room { length self.old.answers.bytes ≤ MAX_PENDING }
+        requires room { length self.old.conn.out.bytes ≤ MAX_PENDING }
         ensures sound { OnOk result (IsSound self.new) }
-        ensures answered { OnOk result (Answered (frame_data frame.now) (C.moment clock.old) (C.moment clock.new) self.old self.new) }
-        ensures err { OnErr result ((self.new.history ≡ self.old.history) × (self.new.answers.bytes ≡ self.old.answers.bytes)) }
+        ensures answered { IfOk result (λ quit. Answered (frame_data frame.now) (C.moment clock.old) (C.moment clock.new) quit self.old self.new) }
+        ensures err { OnErr result ((self.new.history ≡ self.old.history) × (self.new.conn.out.bytes ≡ self.old.conn.out.bytes) × (self.new.conn.features ≡ self.old.conn.features)) }
         ensures asked { (k : ℕ) → C.moment clock.new k ≡ C.moment clock.old (k + 1) }
     {
         let now = clock.now();
-        match served_call(frame) {
-            Some(call) => self.answer(frame, &call, now)?,
-            None => put_status(&mut self.answers, frame, status::UNKNOWN_COMMAND),
+        match self.conn.sort_frame(frame, VBUCKETS) {
+            Act::Answered => Ok(false),
+            Act::Quit => Ok(true),
+            Act::Stat(_) => {
+                put_status(&mut self.conn.out, frame, status::KEY_NOT_FOUND);
+                Ok(false)
+            }
+            Act::Engine(call) => {
+                answer_call(&mut self.plain, &mut self.history, &mut self.conn, frame, &call, now)?;
+                Ok(false)
+            }
         }
-        Ok(())
     }
+}
 
-    // Answers a call, notes that, and appends the response.
-    fn answer(&mut self, frame: &Frame, call: &Call, now: u64) -> Result<(), NoMemory>
-        requires sound { IsSound self.old }
-        requires room { length self.old.answers.bytes ≤ MAX_PENDING }
-        requires moment { now < 2 ^ 62 }
-        requires within { IsWithin (call_data call.now) }
-        ensures sound { OnOk result (IsSound self.new) }
-        ensures called { OnOk result (Calls (frame_data frame.now) (call_data call.now) now self.old self.new) }
-        ensures err { OnErr result ((self.new.history ≡ self.old.history) × (self.new.answers.bytes ≡ self.old.answers.bytes)) }
-    {
-        self.value.cut(0);
-        let reply = self.plain.answer(call, now, &mut self.value)?;
-        let value = self.value.bytes();
-        self.history.note_called(0, call, now, reply, value)?;
-        put_reply(&mut self.answers, frame, call, reply, value);
-        Ok(())
-    }
+// Answers a call, notes that, and appends the text of its reply.
+fn answer_call(
+    plain: &mut Plain,
+    history: &mut History,
+    conn: &mut Conn,
+    frame: &Frame,
+    call: &Call,
+    now: u64,
+) -> Result<(), NoMemory>
+    requires moment { now < 2 ^ 62 }
+    requires within { IsWithin (call_data call.now) }
+    requires head { frame.now.extras_len + frame.now.key_len ≤ length frame.now.body.now }
+    requires spare { 2097152 ≤ conn.old.out.spare }
+    requires value { conn.old.value.spare + length conn.old.value.bytes ≡ VALUE_ROOM }
+    ensures called { OnOk result (Calls (frame_data frame.now) (call_data call.now) now plain.old plain.new history.old history.new conn.old conn.new) }
+    ensures err { OnErr result ((history.new ≡ history.old) × (conn.new.out.bytes ≡ conn.old.out.bytes) × (conn.new.features ≡ conn.old.features)) }
+{
+    conn.value.cut(0);
+    let reply = plain.answer(call, now, &mut conn.value)?;
+    history.note_called(0, call, now, reply, conn.value.bytes())?;
+    reply_text(frame, &reply, conn.value.bytes(), conn.features.seqno, &mut conn.out);
+    Ok(())
 }
 
 // Appends a response that is a status alone.
-fn put_status(answers: &mut Out, frame: &Frame, status: u16)
-    requires { HEADER ≤ answers.old.spare }
-    ensures bytes { answers.new.bytes ≡ answers.old.bytes ++ status_text (frame_data frame.now) status }
-    ensures room { answers.new.spare + length answers.new.bytes ≡ answers.old.spare + length answers.old.bytes }
+fn put_status(out: &mut Out, frame: &Frame, status: u16)
+    requires { HEADER ≤ out.old.spare }
+    ensures bytes { out.new.bytes ≡ out.old.bytes ++ status_text (frame_data frame.now) status }
+    ensures room { out.new.spare + length out.new.bytes ≡ out.old.spare + length out.old.bytes }
 {
-    put_response(
-        answers,
-        frame.opcode,
-        status,
-        frame.opaque,
-        0,
-        0,
-        &[],
-        &[],
-        &[],
-    );
-}
-
-// Appends the response of a call.
-fn put_reply(answers: &mut Out, frame: &Frame, call: &Call, reply: Reply, value: &[u8])
-    requires room { MAX_ANSWER ≤ answers.old.spare }
-    requires value { length value.now ≤ MAX_VALUE }
-    ensures bytes { answers.new.bytes ≡ answers.old.bytes ++ reply_text (frame_data frame.now) (Some (call_data call.now)) reply value.now }
-    ensures room { answers.new.spare + length answers.new.bytes ≡ answers.old.spare + length answers.old.bytes }
-{
-    if reply.status != status::SUCCESS {
-        put_status(answers, frame, reply.status);
-        return;
-    }
-    if shows_value(call) {
-        let flags = reply.flags.to_be_bytes();
-        put_response(
-            answers,
-            frame.opcode,
-            status::SUCCESS,
-            frame.opaque,
-            reply.cas,
-            0,
-            &flags,
-            &[],
-            value,
-        );
-    } else {
-        put_response(
-            answers,
-            frame.opcode,
-            status::SUCCESS,
-            frame.opaque,
-            reply.cas,
-            0,
-            &[],
-            &[],
-            &[],
-        );
-    }
-}
-
-// Whether a call's response shows flags and value.
-fn shows_value(call: &Call) -> bool
-    ensures { result ≡ shows_value (call_data call.now) }
-{
-    matches!(call, Call::Get { .. })
+    put_response(out, frame.opcode, status, frame.opaque, 0, 0, &[], &[], &[]);
 }
 
 /// Writes the answers that aren't written yet. After a fault some of them are lost.

@@ -5,7 +5,6 @@ mod end;
 mod front;
 mod history;
 mod laws;
-mod request;
 mod session;
 
 pub use end::End;

@@ -40,28 +40,29 @@ fn serve_next<W: Sink, C: Clock>(
     requires place { feeder.old.at + length feeder.old.rest < 2 ^ 64 }
     requires sound { IsSound front.old }
 
-    ensures serves { OnOk result (Serves (stand feeder.old.rest front.old (W.held sink.old) (C.moment clock.old)) (stand feeder.new.rest front.new (W.held sink.new) (C.moment clock.new))) }
+    ensures serves { OnOk result (Serves (stand feeder.old.rest front.old (W.held sink.old) (C.moment clock.old) false) (stand feeder.new.rest front.new (W.held sink.new) (C.moment clock.new) false)) }
     ensures sound { OnOk result (IsSound front.new) }
     ensures less { result ≡ Ok true → length feeder.new.rest < length feeder.old.rest }
     ensures partial { result ≡ Ok false → IsPartial feeder.new.rest }
 
-    ensures breaks { IfErr result (λ end. Breaks end (stand feeder.old.rest front.old (W.held sink.old) (C.moment clock.old)) (stand feeder.new.rest front.new (W.held sink.new) (C.moment clock.new)) feeder.new.at (Rose (W.faults sink.old) (W.faults sink.new))) }
+    ensures breaks { IfErr result (λ end. Breaks end (stand feeder.old.rest front.old (W.held sink.old) (C.moment clock.old) false) (stand feeder.new.rest front.new (W.held sink.new) (C.moment clock.new) false) feeder.new.at (Rose (W.faults sink.old) (W.faults sink.new))) }
     ensures legal { OnErr result (IsLegal start front.new.history) }
 
     ensures place { feeder.new.at + length feeder.new.rest ≡ feeder.old.at + length feeder.old.rest }
     ensures faults { W.faults sink.old ≤ W.faults sink.new }
 {
-    let Put::Done = make_room(&mut front.answers, sink) else {
+    let Put::Done = make_room(&mut front.conn.out, sink) else {
         return Err(End::WriteFault);
     };
     match feeder.next() {
         Next::Frame(frame) => match front.serve(&frame, clock) {
-            Ok(()) => Ok(true),
+            Ok(false) => Ok(true),
+            Ok(true) => Err(End::Quit),
             Err(NoMemory) => Err(End::NoMemory),
         },
         Next::Need => Ok(false),
-        Next::BadMagic { at } => Err(End::Torn { at }),
-        Next::TooLong { at } => Err(End::Torn { at }),
+        Next::BadMagic { at } => Err(End::BadMagic { at }),
+        Next::TooLong { at } => Err(End::TooLong { at }),
     }
 }
 
@@ -75,12 +76,12 @@ fn drain<W: Sink, C: Clock>(
     requires place { feeder.old.at + length feeder.old.rest < 2 ^ 64 }
     requires sound { IsSound front.old }
 
-    ensures serves { OnOk result (Serves (stand feeder.old.rest front.old (W.held sink.old) (C.moment clock.old)) (stand feeder.new.rest front.new (W.held sink.new) (C.moment clock.new))) }
+    ensures serves { OnOk result (Serves (stand feeder.old.rest front.old (W.held sink.old) (C.moment clock.old) false) (stand feeder.new.rest front.new (W.held sink.new) (C.moment clock.new) false)) }
     ensures sound { OnOk result (IsSound front.new) }
     ensures partial { OnOk result (IsPartial feeder.new.rest) }
-    ensures written { OnOk result (front.new.answers.bytes ≡ []) }
+    ensures written { OnOk result (front.new.conn.out.bytes ≡ []) }
 
-    ensures breaks { IfErr result (λ end. Breaks end (stand feeder.old.rest front.old (W.held sink.old) (C.moment clock.old)) (stand feeder.new.rest front.new (W.held sink.new) (C.moment clock.new)) feeder.new.at (Rose (W.faults sink.old) (W.faults sink.new))) }
+    ensures breaks { IfErr result (λ end. Breaks end (stand feeder.old.rest front.old (W.held sink.old) (C.moment clock.old) false) (stand feeder.new.rest front.new (W.held sink.new) (C.moment clock.new) false) feeder.new.at (Rose (W.faults sink.old) (W.faults sink.new))) }
     ensures legal { OnErr result (IsLegal start front.new.history) }
 
     ensures place { feeder.new.at + length feeder.new.rest ≡ feeder.old.at + length feeder.old.rest }
@@ -93,7 +94,7 @@ fn drain<W: Sink, C: Clock>(
             Err(end) => return Err(end),
         }
     }
-    match flush(&mut front.answers, sink) {
+    match flush(&mut front.conn.out, sink) {
         Put::Done => Ok(()),
         Put::Failed => Err(End::WriteFault),
     }
@@ -269,7 +270,7 @@ fn serve<R: Source, W: Sink, C: Clock>(
         mut piece,
     } = parts;
     let end = serve_stream(&mut feeder, &mut front, &mut piece, source, sink, clock);
-    let end = finish(end, &mut front.answers, sink);
+    let end = finish(end, &mut front.conn.out, sink);
     let Front { history, .. } = front;
     SessionEnd { end, history }
 }

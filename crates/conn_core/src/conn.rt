@@ -1,0 +1,159 @@
+// One connection's state.
+ghost use Rattle.std.specs.Prelude.{◌≡◌, ◌+◌, ◌<◌, ◌≤◌, ◌^◌, ◌++◌, [], length, IfOk, if◌then◌else◌};
+ghost use Rattle.ep_model.specs.declared.status.TheConstants.{SUCCESS};
+ghost use Rattle.mcbp_ops.specs.Text.{is_silent, status_text};
+ghost use Rattle.conn_core.specs.Hello.{granted};
+ghost use Rattle.mcbp_frame.specs.Frames.{frame_data};
+ghost use Rattle.conn_core.specs.Acts.{act_data, act_of, own_text, features_after, value_text, IsReady};
+
+use crate::act::Act;
+use crate::hello::{Features, asks_seqno};
+use ep_model::limits::{MAX_KEY, MAX_VALUE};
+use ep_model::{NoMemory, Out, status};
+use mcbp_frame::{Frame, HEADER, put_response};
+use mcbp_ops::{Op, is_silent, read_call};
+use std::alloc::Global;
+
+/// How many bytes of answers a connection holds.
+pub const OUT_ROOM: usize = 4_194_304;
+
+/// How many bytes of a value a connection holds: the longest value and the longest key.
+pub const VALUE_ROOM: usize = MAX_VALUE + MAX_KEY;
+
+/// What has to be free in the output before a frame is sorted.
+pub const ANSWER_ROOM: usize = 3_145_728;
+
+/// A connection: the answers that aren't written yet, room for a value, and the features that the last Hello
+/// granted. All its memory is taken by `new`.
+#[derive(Drop)]
+pub struct Conn {
+    pub out: Out,
+    pub value: Out,
+    pub features: Features,
+}
+
+impl Conn {
+    ghost use Rattle.conn_core.specs.Conns.{IsNew};
+
+    /// A connection with empty buffers and no feature.
+    pub fn new(alloc: Global) -> Result<Conn, NoMemory>
+        ensures { IfOk result (λ conn. IsNew conn × (conn.out.spare ≡ OUT_ROOM) × (conn.value.spare ≡ VALUE_ROOM)) }
+    {
+        Ok(Conn {
+            out: Out::new(alloc, OUT_ROOM)?,
+            value: Out::new(alloc, VALUE_ROOM)?,
+            features: Features { seqno: false },
+        })
+    }
+
+    /// Empties both buffers and takes back every feature, in constant time.
+    pub fn clear(&mut self)
+        ensures new { IsNew self.new }
+        ensures out { self.new.out.spare ≡ self.old.out.spare + length self.old.out.bytes }
+        ensures value { self.new.value.spare ≡ self.old.value.spare + length self.old.value.bytes }
+    {
+        self.out.cut(0);
+        self.value.cut(0);
+        self.features = Features { seqno: false };
+    }
+
+    /// Reads a frame, and answers what the connection answers by itself: a refused frame, Noop, Version, Hello and
+    /// Quit, and with 07 a call on a vBucket that there isn't. It takes no memory and constant time, but for a Hello,
+    /// whose cost is linear in its codes.
+    pub fn sort_frame<'a>(&mut self, frame: &Frame<'a>, vbuckets: u16) -> Act<'a>
+        requires { ANSWER_ROOM ≤ self.old.out.spare }
+        ensures act { act_data result ≡ act_of vbuckets (frame_data frame.now) }
+        ensures ready { IsReady (frame_data frame.now) (act_of vbuckets (frame_data frame.now)) }
+        ensures text { self.new.out.bytes ≡ self.old.out.bytes ++ own_text vbuckets (frame_data frame.now) }
+        ensures room { self.new.out.spare + length self.new.out.bytes ≡ self.old.out.spare + length self.old.out.bytes }
+        ensures features { self.new.features ≡ features_after self.old.features (frame_data frame.now) }
+        ensures value { self.new.value ≡ self.old.value }
+    {
+        match read_call(frame) {
+            Err(bad) => {
+                put_status(&mut self.out, frame, bad.status());
+                Act::Answered
+            }
+            Ok(Op::Engine(call)) => {
+                if frame.vbucket < vbuckets {
+                    return Act::Engine(call);
+                }
+                put_status(&mut self.out, frame, status::NOT_MY_VBUCKET);
+                Act::Answered
+            }
+            Ok(Op::Noop) => {
+                put_status(&mut self.out, frame, status::SUCCESS);
+                Act::Answered
+            }
+            Ok(Op::Version) => {
+                put_value(&mut self.out, frame, b"ep_server 1");
+                Act::Answered
+            }
+            Ok(Op::Stat { group }) => Act::Stat(group),
+            Ok(Op::Hello { codes }) => {
+                self.features = Features {
+                    seqno: asks_seqno(codes),
+                };
+                put_granted(&mut self.out, frame, self.features);
+                Act::Answered
+            }
+            Ok(Op::Quit) => {
+                put_quit(&mut self.out, frame);
+                Act::Quit
+            }
+        }
+    }
+}
+
+// Appends a response that is a status alone.
+fn put_status(out: &mut Out, frame: &Frame, status: u16)
+    requires { HEADER ≤ out.old.spare }
+    ensures bytes { out.new.bytes ≡ out.old.bytes ++ status_text (frame_data frame.now) status }
+    ensures room { out.new.spare + length out.new.bytes ≡ out.old.spare + length out.old.bytes }
+{
+    put_response(out, frame.opcode, status, frame.opaque, 0, 0, &[], &[], &[]);
+}
+
+// Appends a response that is a value alone.
+fn put_value(out: &mut Out, frame: &Frame, value: &[u8])
+    requires spare { HEADER + length value.now ≤ out.old.spare }
+    requires fits { length value.now < 2 ^ 32 }
+    ensures bytes { out.new.bytes ≡ out.old.bytes ++ value_text (frame_data frame.now) value.now }
+    ensures room { out.new.spare + length out.new.bytes ≡ out.old.spare + length out.old.bytes }
+{
+    put_response(
+        out,
+        frame.opcode,
+        status::SUCCESS,
+        frame.opaque,
+        0,
+        0,
+        &[],
+        &[],
+        value,
+    );
+}
+
+// Appends the answer to a Hello: the codes that it was granted.
+fn put_granted(out: &mut Out, frame: &Frame, features: Features)
+    requires { HEADER + 2 ≤ out.old.spare }
+    ensures bytes { out.new.bytes ≡ out.old.bytes ++ value_text (frame_data frame.now) (granted features) }
+    ensures room { out.new.spare + length out.new.bytes ≡ out.old.spare + length out.old.bytes }
+{
+    if features.seqno {
+        put_value(out, frame, &[0, 4]);
+    } else {
+        put_value(out, frame, &[]);
+    }
+}
+
+// Appends the answer to a Quit, unless it is quiet.
+fn put_quit(out: &mut Out, frame: &Frame)
+    requires { HEADER ≤ out.old.spare }
+    ensures bytes { out.new.bytes ≡ out.old.bytes ++ (if is_silent frame.now.opcode SUCCESS then [] else status_text (frame_data frame.now) SUCCESS) }
+    ensures room { out.new.spare + length out.new.bytes ≡ out.old.spare + length out.old.bytes }
+{
+    if !is_silent(frame.opcode, status::SUCCESS) {
+        put_status(out, frame, status::SUCCESS);
+    }
+}

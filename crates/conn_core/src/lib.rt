@@ -1,0 +1,10 @@
+//! A connection: its features, its buffers, and the answers that it gives by itself.
+#![tactic(auto)]
+
+mod act;
+mod conn;
+mod hello;
+
+pub use act::{Act, ActData};
+pub use conn::{ANSWER_ROOM, Conn, OUT_ROOM, VALUE_ROOM};
+pub use hello::{Features, asks_seqno};
