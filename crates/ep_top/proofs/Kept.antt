@@ -76,6 +76,10 @@ keeps_called old mid new events caller now call p (more, e) h = call_inside _ _ 
 pub call_kept : (mid new : List ℕ) (call : KeptCall) → Extends mid new → IsCallInside (length mid) call → call_in new call ≡ call_in mid call
 call_kept mid new call (more, e) h = ap (λ bytes. call_in bytes call) e ∙ call_in-append mid more call h
 
+pub err_three : {T E A B C : Type 0} (r : Result T E) → A → B → C → OnErr r (A × B × C)
+err_three (Ok x) a b c = tt
+err_three (Err e) a b c = (a, b, c)
+
 pub err_here : {T E : Type 0} {P : Type 0} (r : Result T E) → P → OnErr r P
 err_here (Ok x) h = tt
 err_here (Err e) h = h

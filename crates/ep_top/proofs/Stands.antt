@@ -259,12 +259,12 @@ place_first held later n frame f is e =
     omega (arith, length-drop (frame_length held.rest) held.rest)
 
 -- the frame that a feeder handed out was answered
-pub serves_first : (held later : FeederData) (n : Next) (frame : Frame) (old new : Front) (sink : Option (List ℕ)) (m next : ℕ → Option ℕ) (quit : Bool)
+pub serves_first : (held later : FeederData) (n : Next) (frame : Frame) (old new : Front) (sink : Option (List ℕ)) (m next : ℕ → Option ℕ) (quit wanted : Bool)
     → IsFrame (first_frame held.rest) → frame_data frame ≡ frame_at (first_frame held.rest) held.at → n ≡ nexts.Frame frame → later ≡ after_next held n
-    → Answered (frame_data frame) m next quit old new → Serves (stand held.rest old sink m false) (stand later.rest new sink next quit)
-serves_first held later n frame old new sink m next quit f same is e a =
-    serves_answer (first_frame held.rest) held.rest later.rest held.at old new sink m next quit f (split_first held later n frame is e)
-      (subst (λ (x : FrameData). Answered x m next quit old new) same a)
+    → Answered (frame_data frame) m next quit old new → quit ≡ wanted → Serves (stand held.rest old sink m false) (stand later.rest new sink next wanted)
+serves_first held later n frame old new sink m next quit wanted f same is e a q =
+    serves_answer (first_frame held.rest) held.rest later.rest held.at old new sink m next wanted f (split_first held later n frame is e)
+      (subst (λ (x : FrameData). Answered x m next wanted old new) same (subst (λ (b : Bool). Answered (frame_data frame) m next b old new) q a))
 
 -- A feeder that hands out no frame holds what it held, and nothing was served but that some answers were written.
 pub serves_none : (held later : FeederData) (n : Next) (old new : Front) (sink now : Option (List ℕ)) (m : ℕ → Option ℕ)

@@ -92,10 +92,13 @@ fn answer_call(
     ensures called { OnOk result (Calls (frame_data frame.now) (call_data call.now) now plain.old plain.new history.old history.new conn.old conn.new) }
     ensures err { OnErr result ((history.new ≡ history.old) × (conn.new.out.bytes ≡ conn.old.out.bytes) × (conn.new.features ≡ conn.old.features)) }
 {
+    // That it is read tells its range, which bounds the answer's length.
+    let _key_len = frame.key_len;
     conn.value.cut(0);
     let reply = plain.answer(call, now, &mut conn.value)?;
-    history.note_called(0, call, now, reply, conn.value.bytes())?;
-    reply_text(frame, &reply, conn.value.bytes(), conn.features.seqno, &mut conn.out);
+    let value = conn.value.bytes();
+    history.note_called(0, call, now, reply, value)?;
+    reply_text(frame, &reply, value, conn.features.seqno, &mut conn.out);
     Ok(())
 }
 

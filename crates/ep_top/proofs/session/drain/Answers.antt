@@ -1,5 +1,5 @@
 -- Frame after frame, and then what is pending is written.
-use Rattle.std.proofs.Common.{◌∙◌, refl, arith}
+use Rattle.std.proofs.Common.{false, ◌∙◌, refl, arith}
 use Rattle.ep_top.specs.Stand.{stand}
 use Rattle.ep_top.proofs.Stands.{serves_nothing, serves_writes, serves_then, breaks_fault, breaks_then, rose_from}
 use Rattle.ep_top.proofs.session.drain.Goals as goal
@@ -21,14 +21,14 @@ returns-in-Err-clause-breaks g c =
 
 pub returns-in-Done-clause-serves : goal.returns-in-Done-clause-serves
 returns-in-Done-clause-serves g c =
-    let here = stand c.serve_next.new.feeder.rest c.serve_next.new.front (g.W.Sink.held c.serve_next.new.sink) (g.C.Clock.moment c.serve_next.new.clock) in
+    let here = stand c.serve_next.new.feeder.rest c.serve_next.new.front (g.W.Sink.held c.serve_next.new.sink) (g.C.Clock.moment c.serve_next.new.clock) false in
     serves_then _ here _ (serves_then _ _ here c.frames.invariant.serves c.in-Ok-false.ensures.serves)
     (serves_writes here c.flush.new.answers.bytes (g.W.Sink.held c.flush.new.sink) (c.flush.ensures.done c.in-Done.is).0)
 
 pub returns-in-Failed-clause-breaks : goal.returns-in-Failed-clause-breaks
 returns-in-Failed-clause-breaks g c =
-    let here = stand c.serve_next.new.feeder.rest c.serve_next.new.front (g.W.Sink.held c.serve_next.new.sink) (g.C.Clock.moment c.serve_next.new.clock) in
+    let here = stand c.serve_next.new.feeder.rest c.serve_next.new.front (g.W.Sink.held c.serve_next.new.sink) (g.C.Clock.moment c.serve_next.new.clock) false in
     let fault = c.flush.ensures.failed c.in-Failed.is in
     let before = c.frames.invariant.faults in
     let then_ = c.in-Ok-false.ensures.faults in
-    breaks_fault _ here fault.0.0 _ _ _ _ (serves_then _ _ here c.frames.invariant.serves c.in-Ok-false.ensures.serves) fault.0.1 (rose_from _ _ _ (omega arith) fault.1)
+    breaks_fault _ here fault.0.0 _ _ _ _ (serves_then _ _ here c.frames.invariant.serves c.in-Ok-false.ensures.serves) refl fault.0.1 (rose_from _ _ _ (omega arith) fault.1)
