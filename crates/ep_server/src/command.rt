@@ -61,3 +61,60 @@ pub fn exit_code(end: End) -> ExitCode
 {
     ExitCode::from(end.status())
 }
+
+#[cfg(test)]
+mod tests {
+    use super::*;
+    use ep_edge::{MemoryClock, MemorySink, MemorySource};
+    use std::process::Abort;
+    use std::test::Fail;
+
+    // A Get of the key `x`.
+    const GET: &[u8] = b"\x80\x00\x00\x01\0\0\0\0\0\0\0\x01\0\0\0\0\0\0\0\0\0\0\0\0x";
+
+    // What it is answered on an empty map: the status 1, and no body.
+    const NOT_FOUND: &[u8] = b"\x81\x00\x00\x00\0\0\0\x01\0\0\0\0\0\0\0\0\0\0\0\0\0\0\0\0";
+
+    // Runs the command line over the Get, and checks its end and what it wrote.
+    fn check_run(
+        rt: &(impl Abort + AllocGlobal),
+        line: &[&str],
+        want: End,
+        answers: &[u8],
+    ) -> Result<(), Fail> {
+        let mut args = Vec::new(rt.alloc());
+        for word in line {
+            args.push(String::from_str(rt.alloc(), word)?)?;
+        }
+        let alloc = rt.alloc();
+        let mut source = MemorySource::new(GET.to_vec(alloc)?, Vec::new(alloc), Vec::new(alloc));
+        let mut sink = MemorySink::new(alloc, 100, Vec::new(alloc)).expect(rt, "memory");
+        let mut clock = MemoryClock::new(Vec::new(alloc));
+        let words = words_behind_name(alloc, args.into_iter());
+        let end = run(alloc, words, &mut source, &mut sink, &mut clock);
+        assert_eq!(rt; end, want, "{line:?}");
+        assert!(rt; sink.bytes() == answers, "{line:?}");
+        Ok(())
+    }
+
+    #[test]
+    fn a_session_is_the_one_command(rt: HostRuntime) -> Result<(), Fail> {
+        check_run(&rt, &["ep_server", "session"], End::Closed, NOT_FOUND)?;
+        check_run(&rt, &["ep_server"], End::BadWords, b"")?;
+        check_run(
+            &rt,
+            &["ep_server", "session", "session"],
+            End::BadWords,
+            b"",
+        )?;
+        check_run(&rt, &["session"], End::BadWords, b"")
+    }
+
+    #[test]
+    fn faults_of_the_command_line_have_their_status(rt: HostRuntime) {
+        for (kind, status) in [(ErrorKind::OutOfMemory, 10), (ErrorKind::InvalidData, 2)] {
+            let end = unread_words(&io::Error::from(kind));
+            assert!(rt; exit_code(end) == ExitCode::from(status), "{kind:?}");
+        }
+    }
+}

@@ -6,6 +6,6 @@ use Rattle.ep_server.proofs.command.words_behind_name.Goals as goal
 
 pub returns-clause-words : goal.returns-clause-words
 returns-clause-words c =
-  let all = YieldsList-from_vec (into_iter_items c.args.args) (ap into_iter_items c.skip.ensures.source) (ap into_iter_len c.skip.ensures.source ∙ c.args.args.rest.ok.0) in
-  let collected : IfOk c.collect.result (λ words. words.items ≡ drop 1 (into_iter_items c.args.args)) = items_from_collect c.collect.result c.collect.ensures.ran (YieldsList-from_skip 1 all c.skip.ensures.count)
-  in search (rules, collected)
+    let all = YieldsList-from_vec (into_iter_items c.args.args) (ap into_iter_items c.skip.ensures.source) (ap into_iter_len c.skip.ensures.source ∙ c.args.args.rest.ok.0) in
+    let collected : IfOk c.collect.result (λ words. words.items ≡ drop 1 (into_iter_items c.args.args)) = items_from_collect c.collect.result c.collect.ensures.ran (YieldsList-from_skip 1 all c.skip.ensures.count)
+    in search (rules, collected)
