@@ -6,5 +6,4 @@ ghost use Rattle.ep_top.specs.Laws.{OneEnd};
 /// but that want of memory and a fault of writing may come in its place.
 pub fn one_end()
     ensures { OneEnd }
-{
-}
+{}

@@ -11,3 +11,6 @@ pub use end::End;
 pub use history::History;
 pub use laws::one_end;
 pub use session::{MAX_TAKEN, SessionEnd, run_session};
+
+#[cfg(test)]
+mod tests;
