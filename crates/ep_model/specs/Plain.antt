@@ -8,7 +8,6 @@ use Rattle.ep_model.specs.declared.call.Reply.{Reply}
 use Rattle.ep_model.specs.declared.data.OutData.{OutData}
 use Rattle.ep_model.specs.declared.document.Document.{Document}
 use Rattle.ep_model.specs.declared.memory.NoMemory.{NoMemory}
-use Rattle.ep_model.specs.declared.plain.TheConstants.{FIT}
 use Rattle.ep_model.specs.World.{Doc, Docs, World}
 use Rattle.ep_model.specs.Answer.{Answer, Nothing, apply}
 
@@ -29,8 +28,8 @@ abbrev pub place_of : List Document → List ℕ → Option ℕ
 place_of documents key = position_from (λ (d : Document). bytes_eq d.key.items key) 0 documents
 
 -- the world of a vBucket that is open, without failovers and with nothing stored
-abbrev pub world_of : ℕ → List Document → ℕ → ℕ → VbState → World
-world_of id documents high maxcas state = record {
+abbrev pub world_of : ℕ → ℕ → VbState → List Document → ℕ → ℕ → World
+world_of id fit state documents high maxcas = record {
   id = id;
   docs = docs_of documents;
   high = high;
@@ -39,7 +38,7 @@ world_of id documents high maxcas state = record {
   failovers = [];
   persisted = 0;
   opened = true;
-  fit = FIT;
+  fit = fit;
 }
 
 -- the numbers leave room for the next ones

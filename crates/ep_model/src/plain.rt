@@ -33,10 +33,11 @@ const FIT: u32 = 16_777_216;
 pub struct Plain {
     alloc: Global,
     id: u16,
+    fit: u32,
+    state: VbState,
     documents: Vec<Document>,
     high: u64,
     maxcas: u64,
-    state: VbState,
 }
 
 impl Model for Plain {
@@ -48,7 +49,7 @@ impl Model for Plain {
 
     ghost coded = { coded_world };
 
-    ghost view = { λ p. world_of p.id p.documents.items p.high p.maxcas p.state };
+    ghost view = { λ p. world_of p.id p.fit p.state p.documents.items p.high p.maxcas };
 
     ghost invariant = { λ p. IsSound p.high p.maxcas };
 }
@@ -61,10 +62,11 @@ impl Plain {
         Plain {
             alloc,
             id,
+            fit: FIT,
+            state: VbState::Active,
             documents: Vec::new(alloc),
             high: 0,
             maxcas: 0,
-            state: VbState::Active,
         }
     }
 
@@ -133,6 +135,13 @@ impl Plain {
         }
     }
 
+    /// How many blocks a document may take at most.
+    fn fit(&self) -> u32
+        ensures { result ≡ self.now.fit }
+    {
+        self.fit
+    }
+
     fn state(&self) -> VbState
         ensures { result ≡ self.now.state }
     {
@@ -170,7 +179,8 @@ impl Plain {
 
     /// A number's text.
     fn text(&self, number: u64) -> Result<Vec<u8>, NoMemory>
-        ensures { IfOk result (λ v. v.items ≡ decimal number) }
+        ensures text { IfOk result (λ v. v.items ≡ decimal number) }
+        ensures short { IfOk result (λ v. length v.items ≤ MAX_VALUE) }
     {
         decimal::text_of(self.alloc, number)
     }

@@ -20,14 +20,16 @@ impl Plain {
         ensures value { value.new.bytes ≡ value.old.bytes ++ (answer_observe self.now uuid).value }
         ensures room { value.new.spare + length value.new.bytes ≡ value.old.spare + length value.old.bytes }
     {
+        let id = self.id;
+        let high = self.high;
         if uuid != NO_UUID {
             return Reply::refusal(status::KEY_NOT_FOUND);
         }
         value.push(&[0]);
-        value.push(&self.id.to_be_bytes());
+        value.push(&id.to_be_bytes());
         value.push(&NO_UUID.to_be_bytes());
         value.push(&NOTHING_STORED.to_be_bytes());
-        value.push(&self.high.to_be_bytes());
+        value.push(&high.to_be_bytes());
         Reply::success()
     }
 
@@ -36,6 +38,7 @@ impl Plain {
         ensures reply { result ≡ (shows 0 0 []).reply }
         ensures value { failover_bytes self.now.failovers ≡ [] }
     {
+        // It is the view of the fields that has the empty table.
         let _ = &self.id;
         Reply::success()
     }

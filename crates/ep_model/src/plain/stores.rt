@@ -7,7 +7,7 @@ ghost use Rattle.ep_model.specs.Refusals.{size_refusal, store_refusal, number_re
 ghost use Rattle.ep_model.specs.Answer.{answer_store, answer_delete, answer_join, cas_of, joined};
 ghost use Rattle.ep_model.specs.Plain.{Does};
 
-use super::{FIT, Plain};
+use super::Plain;
 use crate::document::Draft;
 use crate::{NoMemory, Reply, StoreKind, rules, status};
 
@@ -26,7 +26,8 @@ impl Plain {
         requires within { IsValue value.now }
         ensures { Does (answer_store kind self.old key.now value.now flags expiration cas now) self.old self.new result }
     {
-        let refused = rules::size_refusal(FIT, key.len(), value.len())
+        let too_large = rules::size_refusal(self.fit(), key.len(), value.len());
+        let refused = too_large
             .or(rules::store_refusal(kind, cas, self.live_cas(key, now)))
             .or(self.number_refusal());
         if let Some(refused) = refused {
@@ -75,7 +76,7 @@ impl Plain {
             return Ok(Reply::refusal(status::NOT_STORED));
         };
         let refused = rules::cas_refusal(cas, Some(found.cas))
-            .or(rules::join_refusal(FIT, key.len(), found.value.len() + piece.len()))
+            .or(rules::join_refusal(self.fit(), key.len(), found.value.len() + piece.len()))
             .or(self.number_refusal());
         if let Some(refused) = refused {
             return Ok(Reply::refusal(refused));
