@@ -1,0 +1,4 @@
+pub mod Table
+pub mod Checks
+pub mod Ops
+pub mod Text

@@ -1,0 +1,70 @@
+-- The text of a reply.
+use Rattle.std.specs.Prelude.{ℕ, Bool, true, false, ◌==◌, ◌||◌, if◌then◌else◌, List, [], ◌++◌, Result, Ok, Err}
+use Rattle.byteorder.specs.Endian.{big_bytes}
+use Rattle.ep_model.specs.declared.call.Reply.{Reply}
+use Rattle.ep_model.specs.declared.status.TheConstants.{SUCCESS, KEY_NOT_FOUND}
+use Rattle.mcbp_frame.specs.declared.frame.FrameData.{FrameData}
+use Rattle.mcbp_frame.specs.Response.{response}
+use Rattle.mcbp_ops.specs.declared.kind.Kind.{Kind}
+use Rattle.mcbp_ops.specs.declared.kind.Kind.TheVariants.{Get, Store, Join, Count, Delete, Touch, Observe, Failovers, SetState, GetState, Stat, Hello, Noop, Version, Quit}
+use Rattle.mcbp_ops.specs.declared.op.Bad.{Bad}
+use Rattle.mcbp_ops.specs.Table.{kind_of}
+use Rattle.mcbp_ops.specs.Checks.{key_of}
+
+-- whose replies aren't written where nothing was found, and whose aren't where all went well
+abbrev pub hides_misses : ℕ → Bool
+hides_misses opcode = opcode == 0x09 || opcode == 0x0d || opcode == 0x1e
+
+abbrev pub hides_success : ℕ → Bool
+hides_success opcode =
+    opcode == 0x11 || opcode == 0x12 || opcode == 0x13 || opcode == 0x14 || opcode == 0x15 || opcode == 0x16
+    || opcode == 0x19 || opcode == 0x1a
+
+-- whether the reply of a quiet opcode isn't written; that of the quiet Quit never is
+abbrev pub is_silent : ℕ → ℕ → Bool
+is_silent opcode status =
+    if opcode == 0x17 then true else
+    if hides_misses opcode then status == KEY_NOT_FOUND else
+    if hides_success opcode then status == SUCCESS else false
+
+-- the uuid and the sequence number of a mutation, where they are to be shown
+abbrev pub mutation_extras : Reply → Bool → List ℕ
+mutation_extras reply seqno_feature = if seqno_feature then big_bytes 8 reply.uuid ++ big_bytes 8 reply.seqno else []
+
+-- a response to a frame, of no data type
+abbrev pub answer_text : FrameData → ℕ → ℕ → List ℕ → List ℕ → List ℕ → List ℕ
+answer_text f status cas extras key value = response f.opcode status f.opaque cas 0 extras key value
+
+-- a success: which of the reply and of the value it shows
+abbrev pub success_text : FrameData → Reply → List ℕ → Bool → Kind → List ℕ
+success_text f reply value seqno_feature (Get false) = answer_text f SUCCESS reply.cas (big_bytes 4 reply.flags) [] value
+success_text f reply value seqno_feature (Get true) = answer_text f SUCCESS reply.cas (big_bytes 4 reply.flags) (key_of f) value
+success_text f reply value seqno_feature (Touch true) = answer_text f SUCCESS reply.cas (big_bytes 4 reply.flags) [] value
+success_text f reply value seqno_feature (Touch false) = answer_text f SUCCESS reply.cas [] [] []
+success_text f reply value seqno_feature (Store kind) = answer_text f SUCCESS reply.cas (mutation_extras reply seqno_feature) [] []
+success_text f reply value seqno_feature (Join front) = answer_text f SUCCESS reply.cas (mutation_extras reply seqno_feature) [] []
+success_text f reply value seqno_feature Delete = answer_text f SUCCESS reply.cas (mutation_extras reply seqno_feature) [] []
+success_text f reply value seqno_feature (Count down) = answer_text f SUCCESS reply.cas (mutation_extras reply seqno_feature) [] value
+success_text f reply value seqno_feature Observe = answer_text f SUCCESS 0 [] [] value
+success_text f reply value seqno_feature Failovers = answer_text f SUCCESS 0 [] [] value
+success_text f reply value seqno_feature GetState = answer_text f SUCCESS 0 [] [] value
+success_text f reply value seqno_feature SetState = answer_text f SUCCESS 0 [] [] []
+success_text f reply value seqno_feature Stat = answer_text f SUCCESS 0 [] [] []
+success_text f reply value seqno_feature Hello = answer_text f SUCCESS 0 [] [] []
+success_text f reply value seqno_feature Noop = answer_text f SUCCESS 0 [] [] []
+success_text f reply value seqno_feature Version = answer_text f SUCCESS 0 [] [] []
+success_text f reply value seqno_feature Quit = answer_text f SUCCESS 0 [] [] []
+
+-- a response that is a status alone
+abbrev pub status_text : FrameData → ℕ → List ℕ
+status_text f status = answer_text f status 0 [] [] []
+
+abbrev pub kind_text : FrameData → Reply → List ℕ → Bool → Result Kind Bad → List ℕ
+kind_text f reply value seqno_feature (Ok kind) = success_text f reply value seqno_feature kind
+kind_text f reply value seqno_feature (Err bad) = status_text f reply.status
+
+-- the text of a reply: nothing where it is silent, and a status alone where it isn't a success
+abbrev pub reply_text : FrameData → Reply → List ℕ → Bool → List ℕ
+reply_text f reply value seqno_feature =
+    if is_silent f.opcode reply.status then [] else
+    if reply.status == SUCCESS then kind_text f reply value seqno_feature (kind_of f.opcode) else status_text f reply.status

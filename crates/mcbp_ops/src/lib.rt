@@ -1,0 +1,15 @@
+//! What a request frame of the memcached binary protocol asks for, and the text of its reply: the table of opcodes,
+//! with the checks that a frame has to pass, in their order.
+#![tactic(auto)]
+
+mod kind;
+mod op;
+pub mod opcodes;
+mod parts;
+mod read;
+mod shape;
+mod text;
+
+pub use op::{Bad, Op, OpData};
+pub use read::read_call;
+pub use text::{is_silent, reply_text};
