@@ -15,3 +15,6 @@ pub use laws::{each_opcode_is_served, quiet_reads_as_plain, refusals_are_written
 pub use op::{Bad, Op, OpData};
 pub use read::read_call;
 pub use text::{is_silent, reply_text};
+
+#[cfg(test)]
+mod tests;
