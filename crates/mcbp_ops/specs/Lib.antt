@@ -2,3 +2,4 @@ pub mod Table
 pub mod Checks
 pub mod Ops
 pub mod Text
+pub mod Laws

@@ -3,6 +3,7 @@
 #![tactic(auto)]
 
 mod kind;
+mod laws;
 mod op;
 pub mod opcodes;
 mod parts;
@@ -10,6 +11,10 @@ mod read;
 mod shape;
 mod text;
 
+pub use laws::{each_opcode_is_served, quiet_reads_as_plain, refusals_are_written};
 pub use op::{Bad, Op, OpData};
 pub use read::read_call;
 pub use text::{is_silent, reply_text};
+
+#[cfg(test)]
+mod tests;
