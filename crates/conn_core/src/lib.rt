@@ -8,3 +8,6 @@ mod hello;
 pub use act::{Act, ActData};
 pub use conn::{ANSWER_ROOM, Conn, OUT_ROOM, VALUE_ROOM};
 pub use hello::{Features, asks_seqno};
+
+#[cfg(test)]
+mod tests;

@@ -217,10 +217,10 @@ fn open(alloc: Global) -> Result<Parts, NoMemory>
 }
 
 /// Does the whole of the command `session`: takes frames from the source, answers each, and writes the answers,
-/// all of those that it has before it reads again. The clock is asked once for each whole frame. A Get, and a Set
-/// without a CAS, of vBucket 0 are served, as calls of caller 0; every other whole frame is answered 81 (unknown
-/// command) and is no event. The history grows with the input; beside it the cost of a frame is that of the plain
-/// map.
+/// all of those that it has before it reads again. The clock is asked once for each whole frame. Calls on vBucket 0
+/// are served as calls of caller 0, and each is one event of the history; what the connection answers by itself
+/// (refusals, Hello, Noop, Version, Stat, Quit) is no event. A Quit is the last frame that is served. The history
+/// grows with the input; beside it the cost of a frame is that of the plain map.
 pub fn run_session<R: Source, W: Sink, C: Clock>(
     alloc: Global,
     words: &Vec<String>,
