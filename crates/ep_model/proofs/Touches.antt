@@ -32,8 +32,9 @@ touch-fetched fetch w new key value expiration now expiry shown doc reply out mo
     let written = next_doc w value doc.flags expiry false now in
     let stands : value_of (get new.docs key) ≡ value = ap (λ (v : World). value_of (get v.docs key)) does.2 ∙ ap value_of (get-put w key written) in
     let shows-all : shown_value fetch doc ≡ doc.value = ap (λ b. shown_value b doc) fetched in
-    subst (λ (a : Answer). Serves a w new out more (Ok reply)) (sym e)
-    (does.0 ∙ ap (λ f. (put_success w key written f []).reply) shown-is,
-    bytes ∙ ap (λ xs. out.bytes ++ xs) (stands ∙ value-is ∙ sym shows-all),
-    does.2 ∙ ap (λ xs. put w key (next_doc w xs doc.flags expiry false now)) value-is,
-    spare)
+    subst (λ (a : Answer). Serves a w new out more (Ok reply)) (sym e) (
+      does.0 ∙ ap (λ f. (put_success w key written f []).reply) shown-is,
+      bytes ∙ ap (λ xs. out.bytes ++ xs) (stands ∙ value-is ∙ sym shows-all),
+      does.2 ∙ ap (λ xs. put w key (next_doc w xs doc.flags expiry false now)) value-is,
+      spare,
+    )

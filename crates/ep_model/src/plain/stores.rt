@@ -46,8 +46,7 @@ impl Plain {
         requires moment { now < 2 ^ 62 }
         ensures { Does (answer_delete self.old key.now cas now) self.old self.new result }
     {
-        let refused =
-            rules::wanted_refusal(cas, self.live_cas(key, now)).or(self.number_refusal());
+        let refused = rules::wanted_refusal(cas, self.live_cas(key, now)).or(self.number_refusal());
         if let Some(refused) = refused {
             return Ok(Reply::refusal(refused));
         }
