@@ -1,5 +1,6 @@
-pub mod AnswerLemmas
+pub mod DecimalLemmas
 pub mod HistoryLemmas
 pub mod PlainAnswers
 pub mod PlainLemmas
 pub mod ReadBack
+pub mod Touches

@@ -1,67 +1,62 @@
--- The answers of a world whose documents stand in a plain list: what a scan of that list finds decides them.
-use Rattle.std.proofs.Common.{◌≡◌, ◌≢◌, ◌≤◌, ℕ, false, List, sym, ap, ◌∙◌}
+-- A world whose documents stand in a plain list: what a scan of that list finds, and what a put leaves.
+use Rattle.std.proofs.Common.{◌≡◌, ◌<◌, ℕ, List, [], ◌∷◌, ◌++◌, length, get_or, refl, sym, ap, ◌∙◌, append_assoc}
 use Rattle.std.specs.Prelude.{Option, Some, None, slice_get, option_and_then}
 use Rattle.std.specs.Option.{option_map}
-use Rattle.std.specs.FinMap.{insert}
-use Rattle.ep_model.specs.declared.call.StoreKind.TheVariants as kinds
-use Rattle.ep_model.specs.declared.data.CallData.TheVariants.{Get, Store}
+use Rattle.std.proofs.lemmas.Option.{slice_get_read}
+use Rattle.std.specs.FinMap.{get, insert}
+use Rattle.ep_model.specs.declared.call.VbState.{VbState}
 use Rattle.ep_model.specs.declared.document.Document.{Document}
-use Rattle.ep_model.specs.declared.plain.TheConstants.{FIT}
-use Rattle.ep_model.specs.declared.status.TheConstants.{OUT_OF_RANGE}
-use Rattle.ep_model.specs.World.{Doc, Docs, World, live, live_of, stored_expiry, doc_blocks, last_seqno, put}
-use Rattle.ep_model.specs.Answer.{answer, shown, refused, stores}
-use Rattle.ep_model.specs.Cas.{cas_refusal}
-use Rattle.ep_model.specs.Plain.{doc_of, docs_of, place_of, world_of}
-use Rattle.ep_model.proofs.AnswerLemmas.{refused_or, cas_of, stored, answer_set-fits, stores-full, stores-room}
+use Rattle.ep_model.specs.World.{Doc, Docs, World, live, live_of, put}
+use Rattle.std.specs.Int.{w16, w64, to_be_bytes}
+use Rattle.ep_model.specs.Answer.{answer_observe}
+use Rattle.ep_model.specs.Plain.{doc_of, docs_of, place_of, value_of, world_of}
 use Rattle.ep_model.proofs.PlainLemmas.{place-get}
 
 -- The document at the place of a key, if it is live, is the world's. The lists l and m are the world's, as two
 -- reads of it gave them.
-pub live-at : (ds l m : List Document) (high maxcas : ℕ) (key : List ℕ) (place : Option ℕ) (now : ℕ) → l ≡ ds → m ≡ ds → place ≡ place_of l key → live_of (option_map doc_of (option_and_then (slice_get m) place)) now ≡ live (world_of ds high maxcas) key now
-live-at ds l m high maxcas key place now l-is m-is place-is =
+pub live-at : (w : World) (id fit : ℕ) (state : VbState) (ds l m : List Document) (high maxcas : ℕ) (key : List ℕ) (place : Option ℕ) (now : ℕ) → world_of id fit state ds high maxcas ≡ w → l ≡ ds → m ≡ ds → place ≡ place_of l key → live_of (option_map doc_of (option_and_then (slice_get m) place)) now ≡ live w key now
+live-at w id fit state ds l m high maxcas key place now w-is l-is m-is place-is =
     ap (λ (xs : List Document). live_of (option_map doc_of (option_and_then (slice_get xs) place)) now) m-is
     ∙ ap (λ (o : Option Doc). live_of o now) (place-get ds key place (place-is ∙ ap (λ (xs : List Document). place_of xs key) l-is))
-
--- a Get shows it
-pub get-answer : (w : World) (ds l m : List Document) (high maxcas : ℕ) (key : List ℕ) (place : Option ℕ) (now : ℕ) (got : Option Doc) → world_of ds high maxcas ≡ w → l ≡ ds → m ≡ ds → place ≡ place_of l key → got ≡ live_of (option_map doc_of (option_and_then (slice_get m) place)) now → answer w (Get key) now ≡ shown got
-get-answer w ds l m high maxcas key place now got w-is l-is m-is place-is got-is =
-    ap (λ (v : World). answer v (Get key) now) (sym w-is)
-    ∙ ap shown (sym (got-is ∙ live-at ds l m high maxcas key place now l-is m-is place-is))
-
--- A Set that fits goes by its CAS. The facts after the values say what each helper of the plain map gave.
-set-answer : (w : World) (ds l m : List Document) (high maxcas : ℕ) (key value : List ℕ) (flags expiration cas : ℕ) (place : Option ℕ) (now : ℕ) (current refusal : Option ℕ) → world_of ds high maxcas ≡ w → l ≡ ds → m ≡ ds → place ≡ place_of l key → current ≡ cas_of (live_of (option_map doc_of (option_and_then (slice_get m) place)) now) → refusal ≡ cas_refusal cas current → doc_blocks key value ≤ FIT → answer w (Store kinds.Set key value flags expiration cas) now ≡ refused_or refusal (stores (world_of ds high maxcas) key value flags (stored_expiry expiration now) now)
-set-answer w ds l m high maxcas key value flags expiration cas place now current refusal w-is l-is m-is place-is current-is refusal-is fits =
-    let found : current ≡ cas_of (live (world_of ds high maxcas) key now) = current-is ∙ ap cas_of (live-at ds l m high maxcas key place now l-is m-is place-is) in
-    ap (λ (v : World). answer v (Store kinds.Set key value flags expiration cas) now) (sym w-is)
-    ∙ answer_set-fits (world_of ds high maxcas) key value flags expiration cas now fits
-    ∙ ap (λ r. refused_or r (stores (world_of ds high maxcas) key value flags (stored_expiry expiration now) now)) (sym (refusal-is ∙ ap (cas_refusal cas) found))
-
--- it is refused under a wrong CAS,
-pub set-refused : (w : World) (ds l m : List Document) (high maxcas : ℕ) (key value : List ℕ) (flags expiration cas : ℕ) (place : Option ℕ) (now : ℕ) (current refusal : Option ℕ) → world_of ds high maxcas ≡ w → l ≡ ds → m ≡ ds → place ≡ place_of l key → current ≡ cas_of (live_of (option_map doc_of (option_and_then (slice_get m) place)) now) → refusal ≡ cas_refusal cas current → doc_blocks key value ≤ FIT → (status : ℕ) → refusal ≡ Some status → answer w (Store kinds.Set key value flags expiration cas) now ≡ refused status
-set-refused w ds l m high maxcas key value flags expiration cas place now current refusal w-is l-is m-is place-is current-is refusal-is fits status is =
-    set-answer w ds l m high maxcas key value flags expiration cas place now current refusal w-is l-is m-is place-is current-is refusal-is fits
-    ∙ ap (λ r. refused_or r (stores (world_of ds high maxcas) key value flags (stored_expiry expiration now) now)) is
-
--- or where the numbers have run out,
-pub set-full : (w : World) (ds l m : List Document) (high maxcas : ℕ) (key value : List ℕ) (flags expiration cas : ℕ) (place : Option ℕ) (now : ℕ) (current refusal : Option ℕ) → world_of ds high maxcas ≡ w → l ≡ ds → m ≡ ds → place ≡ place_of l key → current ≡ cas_of (live_of (option_map doc_of (option_and_then (slice_get m) place)) now) → refusal ≡ cas_refusal cas current → doc_blocks key value ≤ FIT → refusal ≡ None → high ≡ last_seqno → answer w (Store kinds.Set key value flags expiration cas) now ≡ refused OUT_OF_RANGE
-set-full w ds l m high maxcas key value flags expiration cas place now current refusal w-is l-is m-is place-is current-is refusal-is fits is full =
-    set-answer w ds l m high maxcas key value flags expiration cas place now current refusal w-is l-is m-is place-is current-is refusal-is fits
-    ∙ ap (λ r. refused_or r (stores (world_of ds high maxcas) key value flags (stored_expiry expiration now) now)) is ∙ stores-full (world_of ds high maxcas) key value flags (stored_expiry expiration now) now full
-
--- and else it stores
-pub set-stores : (w : World) (ds l m : List Document) (high maxcas : ℕ) (key value : List ℕ) (flags expiration cas : ℕ) (place : Option ℕ) (now : ℕ) (current refusal : Option ℕ) → world_of ds high maxcas ≡ w → l ≡ ds → m ≡ ds → place ≡ place_of l key → current ≡ cas_of (live_of (option_map doc_of (option_and_then (slice_get m) place)) now) → refusal ≡ cas_refusal cas current → doc_blocks key value ≤ FIT → refusal ≡ None → high ≢ last_seqno → answer w (Store kinds.Set key value flags expiration cas) now ≡ stored (world_of ds high maxcas) key value flags (stored_expiry expiration now) now
-set-stores w ds l m high maxcas key value flags expiration cas place now current refusal w-is l-is m-is place-is current-is refusal-is fits is room =
-    set-answer w ds l m high maxcas key value flags expiration cas place now current refusal w-is l-is m-is place-is current-is refusal-is fits
-    ∙ ap (λ r. refused_or r (stores (world_of ds high maxcas) key value flags (stored_expiry expiration now) now)) is ∙ stores-room (world_of ds high maxcas) key value flags (stored_expiry expiration now) now room
-
--- a document by its fields
-pub doc-is : (flags expiry e cas c seqno : ℕ) → expiry ≡ e → cas ≡ c → (bytes b : List ℕ) → bytes ≡ b → ◌≡◌ {A = Doc} (record { value = bytes; flags = flags; expiry = expiry; cas = cas; seqno = seqno; deleted = false }) (record { value = b; flags = flags; expiry = e; cas = c; seqno = seqno; deleted = false })
-doc-is flags expiry e cas c seqno expiry-is cas-is bytes b bytes-is = λ i. record { value = bytes-is i; flags = flags; expiry = expiry-is i; cas = cas-is i; seqno = seqno; deleted = false }
+    ∙ ap (λ (v : World). live v key now) w-is
 
 -- the world of a list whose documents are those before with one inserted
-pub world-put : (w : World) (ds new : List Document) (high maxcas : ℕ) (key k : List ℕ) (doc d : Doc) → world_of ds high maxcas ≡ w → docs_of new ≡ insert (docs_of ds) k d → k ≡ key → d ≡ doc → world_of new d.seqno d.cas ≡ put w key doc
-world-put w ds new high maxcas key k doc d w-is new-is key-is doc-is =
-    ap (λ (m : Docs). record (world_of new d.seqno d.cas) { docs = m }) new-is
-    ∙ ap (λ x. put (world_of ds high maxcas) x d) key-is
-    ∙ ap (λ x. put (world_of ds high maxcas) key x) doc-is
+pub world-put : (w : World) (id fit : ℕ) (state : VbState) (ds new : List Document) (high maxcas : ℕ) (key k : List ℕ) (doc d : Doc) → world_of id fit state ds high maxcas ≡ w → docs_of new ≡ insert (docs_of ds) k d → k ≡ key → d ≡ doc → world_of id fit state new doc.seqno doc.cas ≡ put w key doc
+world-put w id fit state ds new high maxcas key k doc d w-is new-is key-is doc-is =
+    ap (λ (m : Docs). record (world_of id fit state new doc.seqno doc.cas) { docs = m }) (new-is ∙ ap (λ x. insert (docs_of ds) x d) key-is ∙ ap (λ x. insert (docs_of ds) key x) doc-is)
     ∙ ap (λ x. put x key doc) w-is
+
+-- the value of a key's document stands at the key's place
+pub value-at : (w : World) (id fit : ℕ) (state : VbState) (ds l : List Document) (high maxcas : ℕ) (key : List ℕ) (place : Option ℕ) (i : ℕ) (d : Document) → world_of id fit state ds high maxcas ≡ w → l ≡ ds → place ≡ place_of l key → place ≡ Some i → slice_get ds i ≡ Some d → value_of (get w.docs key) ≡ d.value.items
+value-at w id fit state ds l high maxcas key place i d w-is l-is place-is at d-is =
+    ap (λ (v : World). value_of (get v.docs key)) (sym w-is)
+    ∙ ap value_of (sym (place-get ds key place (place-is ∙ ap (λ (xs : List Document). place_of xs key) l-is)))
+    ∙ ap (λ (p : Option ℕ). value_of (option_map doc_of (option_and_then (slice_get ds) p))) at
+    ∙ ap (λ (o : Option Document). value_of (option_map doc_of o)) d-is
+
+-- and there is none where the key has no place
+pub value-missing : (w : World) (id fit : ℕ) (state : VbState) (ds l : List Document) (high maxcas : ℕ) (key : List ℕ) (place : Option ℕ) → world_of id fit state ds high maxcas ≡ w → l ≡ ds → place ≡ place_of l key → place ≡ None → value_of (get w.docs key) ≡ []
+value-missing w id fit state ds l high maxcas key place w-is l-is place-is at =
+    ap (λ (v : World). value_of (get v.docs key)) (sym w-is)
+    ∙ ap value_of (sym (place-get ds key place (place-is ∙ ap (λ (xs : List Document). place_of xs key) l-is)))
+    ∙ ap (λ (p : Option ℕ). value_of (option_map doc_of (option_and_then (slice_get ds) p))) at
+
+-- the document at an index that was read
+pub read-at : (ds : List Document) (i : ℕ) (d : Document) → i < length ds → d ≡ get_or ds i d → slice_get ds i ≡ Some d
+read-at ds i d h is = slice_get_read ds (length ds) i d refl h is
+
+-- what ObserveSeqno shows of a plain list
+pub observe-value : (w : World) (id fit : ℕ) (state : VbState) (ds : List Document) (high maxcas uuid : ℕ) → world_of id fit state ds high maxcas ≡ w → uuid ≡ 0 → (answer_observe w uuid).value ≡ (0 ∷ []) ++ to_be_bytes w16 id ++ to_be_bytes w64 0 ++ to_be_bytes w64 0 ++ to_be_bytes w64 high
+observe-value w id fit state ds high maxcas uuid w-is uuid-is =
+    ap (λ (v : World). (answer_observe v uuid).value) (sym w-is)
+    ∙ ap (λ u. (answer_observe (world_of id fit state ds high maxcas) u).value) uuid-is
+
+-- five pieces that are pushed one after another
+pub five-pushes : (old a b c d e r s t u n₁ n₂ n₃ n₄ n₅ : List ℕ) → n₁ ≡ old ++ a → n₂ ≡ n₁ ++ r → r ≡ b → n₃ ≡ n₂ ++ s → s ≡ c → n₄ ≡ n₃ ++ t → t ≡ d → n₅ ≡ n₄ ++ u → u ≡ e → n₅ ≡ old ++ (a ++ b ++ c ++ d ++ e)
+five-pushes old a b c d e r s t u n₁ n₂ n₃ n₄ n₅ first second r-is third s-is fourth t-is fifth u-is =
+    fifth ∙ ap (λ xs. xs ++ u) (fourth ∙ ap (λ xs. xs ++ t) (third ∙ ap (λ xs. xs ++ s) (second ∙ ap (λ xs. xs ++ r) first)))
+    ∙ ap (λ xs. (((((old ++ a) ++ xs) ++ s) ++ t) ++ u)) r-is
+    ∙ ap (λ xs. (((((old ++ a) ++ b) ++ xs) ++ t) ++ u)) s-is
+    ∙ ap (λ xs. (((((old ++ a) ++ b) ++ c) ++ xs) ++ u)) t-is
+    ∙ ap (λ xs. (((((old ++ a) ++ b) ++ c) ++ d) ++ xs)) u-is
+    ∙ simp append_assoc

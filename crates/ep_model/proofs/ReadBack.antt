@@ -1,5 +1,5 @@
 -- What a successful Set stores is read back, and every other key stays as it was.
-use Rattle.std.proofs.Common.{◌≡◌, ◌≢◌, ◌<◌, ◌⊎◌, inl, inr, ℕ, ◌+◌, true, false, cond, List, refl, sym, ap, ◌∙◌, arith}
+use Rattle.std.proofs.Common.{◌≡◌, ◌≢◌, ◌<◌, ◌⊎◌, inl, inr, ℕ, ◌+◌, Bool, true, false, cond, List, [], length, refl, sym, ap, ◌∙◌, arith}
 use Rattle.std.specs.Prelude.{◌==◌, ◌||◌, ◌&&◌, not, nat_lt, Option, Some, None}
 use Rattle.std.proofs.Math.Bool.{or-true}
 use Rattle.std.proofs.lemmas.Bool.Decides.{nat_tests}
@@ -10,41 +10,48 @@ use Rattle.std.specs.Cmp.Lexicographic.{slice_cmp, nat_list_cmp_total, texts_tie
 use Rattle.std.specs.FinMap.{get, get-insert}
 use Rattle.ep_model.specs.declared.call.VbState.TheVariants.{Active}
 use Rattle.ep_model.specs.declared.call.StoreKind.TheVariants as kinds
+use Rattle.ep_model.specs.declared.data.CallData.{CallData}
 use Rattle.ep_model.specs.declared.data.CallData.TheVariants.{Get, Store}
 use Rattle.ep_model.specs.declared.status.TheConstants.{SUCCESS, KEY_NOT_FOUND, KEY_EXISTS, TOO_LARGE, OUT_OF_RANGE}
-use Rattle.ep_model.specs.World.{Doc, World, is_live, live, live_of, secs, stored_expiry, doc_blocks, last_seqno, put}
-use Rattle.ep_model.specs.Answer.{Answer, refused, shown, stores, under_cas, answer_set, if_active, answer, apply}
+use Rattle.ep_model.specs.World.{Doc, World, is_live, live, live_of, secs, stored_expiry, blocks, last_seqno, next_doc, put}
+use Rattle.ep_model.specs.Refusals.{has_key, state_refusal, cas_refusal, number_refusal}
+use Rattle.ep_model.specs.Answer.{Answer, unless, put_success, cas_of, answer_get, answer_store, answer_row, answer, apply}
 use Rattle.ep_model.specs.Laws.{SetIsReadBack, SetKeepsOthers, found}
-use Rattle.ep_model.proofs.AnswerLemmas.{stored}
+
+-- a status that isn't success refuses what doesn't succeed
+unless-success : (b : Bool) (status : ℕ) (done : Answer) → status ≢ SUCCESS → (unless (cond b (Some status) None) done).reply.status ≡ SUCCESS → unless (cond b (Some status) None) done ≡ done
+unless-success true status done differs h = absurd (differs h)
+unless-success false status done differs h = refl
 
 -- a call that the CAS rule lets succeed is done
-under_cas-success : (cas : ℕ) (was : Option Doc) (done : Answer) → (under_cas cas was done).reply.status ≡ SUCCESS → under_cas cas was done ≡ done
-under_cas-success cas None done h = elim (cas == 0) as (λ b. (cond b done (refused KEY_NOT_FOUND)).reply.status ≡ SUCCESS → cond b done (refused KEY_NOT_FOUND) ≡ done) [ true ↦ λ is. refl | false ↦ λ is. absurd (omega arith) ] h
-under_cas-success cas (Some d) done h = elim (cas == 0 || cas == d.cas) as (λ b. (cond b done (refused KEY_EXISTS)).reply.status ≡ SUCCESS → cond b done (refused KEY_EXISTS) ≡ done) [ true ↦ λ is. refl | false ↦ λ is. absurd (omega arith) ] h
+cas-success : (cas : ℕ) (was : Option ℕ) (done : Answer) → (unless (cas_refusal cas was) done).reply.status ≡ SUCCESS → unless (cas_refusal cas was) done ≡ done
+cas-success cas None done h = elim (cas == 0) as (λ b. (unless (cond b None (Some KEY_NOT_FOUND)) done).reply.status ≡ SUCCESS → unless (cond b None (Some KEY_NOT_FOUND)) done ≡ done) [ true ↦ λ is. refl | false ↦ λ is. absurd (omega arith) ] h
+cas-success cas (Some current) done h = elim (cas == 0 || cas == current) as (λ b. (unless (cond b None (Some KEY_EXISTS)) done).reply.status ≡ SUCCESS → unless (cond b None (Some KEY_EXISTS)) done ≡ done) [ true ↦ λ is. refl | false ↦ λ is. absurd (omega arith) ] h
 
--- what succeeds is stored
-stores-success : (w : World) (key value : List ℕ) (flags expiry now : ℕ) → (stores w key value flags expiry now).reply.status ≡ SUCCESS → stores w key value flags expiry now ≡ stored w key value flags expiry now
-stores-success w key value flags expiry now h = elim (w.high == last_seqno) as (λ b. (cond b (refused OUT_OF_RANGE) (stored w key value flags expiry now)).reply.status ≡ SUCCESS → cond b (refused OUT_OF_RANGE) (stored w key value flags expiry now) ≡ stored w key value flags expiry now) [ true ↦ λ is. absurd (omega arith) | false ↦ λ is. refl ] h
+-- what a Set that succeeds has put
+abbrev stored : World → List ℕ → List ℕ → ℕ → ℕ → ℕ → Answer
+stored w key value flags expiry now = put_success w key (next_doc w value flags expiry false now) 0 []
 
 -- a Set that succeeds stores
-answer_set-success : (w : World) (key value : List ℕ) (flags expiration cas now : ℕ) → (answer_set w key value flags expiration cas now).reply.status ≡ SUCCESS → answer_set w key value flags expiration cas now ≡ stored w key value flags (stored_expiry expiration now) now
-answer_set-success w key value flags expiration cas now h =
-    let done : Answer = stores w key value flags (stored_expiry expiration now) now in
-    let under : Answer = under_cas cas (live w key now) done in
-    elim (nat_lt w.fit (doc_blocks key value)) as (λ b. (cond b (refused TOO_LARGE) under).reply.status ≡ SUCCESS → cond b (refused TOO_LARGE) under ≡ stored w key value flags (stored_expiry expiration now) now) [
-      | true ↦ λ is. absurd (omega arith)
-      | false ↦ λ is. let e : under ≡ done = under_cas-success cas (live w key now) done is in e ∙ stores-success w key value flags (stored_expiry expiration now) now (ap (λ (a : Answer). a.reply.status) (sym e) ∙ is)
-    ] h
+set-success : (w : World) (key value : List ℕ) (flags expiration cas now : ℕ) → (answer_store kinds.Set w key value flags expiration cas now).reply.status ≡ SUCCESS → answer_store kinds.Set w key value flags expiration cas now ≡ stored w key value flags (stored_expiry expiration now) now
+set-success w key value flags expiration cas now h =
+    let done : Answer = stored w key value flags (stored_expiry expiration now) now in
+    let numbered : Answer = unless (number_refusal w.high) done in
+    let under : Answer = unless (cas_refusal cas (cas_of (live w key now))) numbered in
+    let sized : answer_store kinds.Set w key value flags expiration cas now ≡ under = unless-success (nat_lt w.fit (blocks (length key) + blocks (length value))) TOO_LARGE under (omega arith) h in
+    let allowed : under ≡ numbered = cas-success cas (cas_of (live w key now)) numbered (ap (λ (a : Answer). a.reply.status) (sym sized) ∙ h) in
+    let last : numbered ≡ done = unless-success (w.high == last_seqno) OUT_OF_RANGE done (omega arith) (ap (λ (a : Answer). a.reply.status) (sym (sized ∙ allowed)) ∙ h) in
+    sized ∙ allowed ∙ last
 
--- in an active world a call is answered
-at-active : (w : World) (a : Answer) → w.state ≡ Active → if_active w.state a ≡ a
-at-active w a active = ap (λ s. if_active s a) active
+-- in an active world a call is answered by its row
+at-active : (w : World) (call : CallData) (now : ℕ) → w.state ≡ Active → answer w call now ≡ answer_row w call now
+at-active w call now active = ap (λ s. unless (state_refusal s (has_key call)) (answer_row w call now)) active
 
 -- what a Set that succeeds is answered
 set-stored : (w : World) (key value : List ℕ) (flags expiration cas now : ℕ) → w.state ≡ Active → (answer w (Store kinds.Set key value flags expiration cas) now).reply.status ≡ SUCCESS → answer w (Store kinds.Set key value flags expiration cas) now ≡ stored w key value flags (stored_expiry expiration now) now
 set-stored w key value flags expiration cas now active h =
-    let e : answer w (Store kinds.Set key value flags expiration cas) now ≡ answer_set w key value flags expiration cas now = at-active w (answer_set w key value flags expiration cas now) active in
-    e ∙ answer_set-success w key value flags expiration cas now (ap (λ (a : Answer). a.reply.status) (sym e) ∙ h)
+    let e = at-active w (Store kinds.Set key value flags expiration cas) now active in
+    e ∙ set-success w key value flags expiration cas now (ap (λ (a : Answer). a.reply.status) (sym e) ∙ h)
 
 -- a document that isn't deleted is live before its expiry
 live-before : (doc : Doc) (now : ℕ) → doc.deleted ≡ false → (doc.expiry ≡ 0) ⊎ (secs now < doc.expiry) → is_live doc now ≡ true
@@ -56,7 +63,7 @@ live-before doc now kept (inr before) =
     ap (λ b. not b && (doc.expiry == 0 || nat_lt (secs now) doc.expiry)) kept ∙ ap (λ b. doc.expiry == 0 || b) test ∙ or-true (doc.expiry == 0)
 
 -- a world has the document that was put last
-get-put : (w : World) (key : List ℕ) (doc : Doc) → get (put w key doc).docs key ≡ Some doc
+pub get-put : (w : World) (key : List ℕ) (doc : Doc) → get (put w key doc).docs key ≡ Some doc
 get-put w key doc = get-insert nat_list_cmp_total w.docs key doc key ∙ ap (λ b. cond b (Some doc) (get w.docs key)) ((eq_by_cmp_equiv nat_list_cmp_total).refl key)
 
 -- and every other as before
@@ -68,16 +75,16 @@ get-put_other w key other doc differ =
     ] refl
 
 -- a Get after a put shows the document until it expires
-get-shows : (w : World) (key : List ℕ) (doc : Doc) (later : ℕ) → w.state ≡ Active → doc.deleted ≡ false → (doc.expiry ≡ 0) ⊎ (secs later < doc.expiry) → answer (put w key doc) (Get key) later ≡ shown (Some doc)
+get-shows : (w : World) (key : List ℕ) (doc : Doc) (later : ℕ) → w.state ≡ Active → doc.deleted ≡ false → (doc.expiry ≡ 0) ⊎ (secs later < doc.expiry) → answer (put w key doc) (Get key) later ≡ answer_get (Some doc)
 get-shows w key doc later active kept before =
-    at-active (put w key doc) (shown (live (put w key doc) key later)) active
-    ∙ ap (λ o. shown (live_of o later)) (get-put w key doc)
-    ∙ ap (λ b. shown (cond b (Some doc) None)) (live-before doc later kept before)
+    at-active (put w key doc) (Get key) later active
+    ∙ ap (λ o. answer_get (live_of o later)) (get-put w key doc)
+    ∙ ap (λ b. answer_get (cond b (Some doc) None)) (live-before doc later kept before)
 
 pub set-read-back : SetIsReadBack
 set-read-back w key value flags expiration cas now opened active success = λ later before.
     let e = set-stored w key value flags expiration cas now active success in
-    let doc : Doc = record { value = value; flags = flags; expiry = stored_expiry expiration now; cas = (stored w key value flags (stored_expiry expiration now) now).reply.cas; seqno = w.high + 1; deleted = false } in
+    let doc : Doc = next_doc w value flags (stored_expiry expiration now) false now in
     ap (λ (a : Answer). answer (apply w a.effect) (Get key) later) e
     ∙ get-shows w key doc later active refl before
     ∙ ap (λ (a : Answer). found value flags a.reply.cas) (sym e)
@@ -85,6 +92,6 @@ set-read-back w key value flags expiration cas now opened active success = λ la
 pub set-keeps-others : SetKeepsOthers
 set-keeps-others w key value flags expiration cas now opened active success = λ other moment differ.
     let e = set-stored w key value flags expiration cas now active success in
-    let doc : Doc = record { value = value; flags = flags; expiry = stored_expiry expiration now; cas = (stored w key value flags (stored_expiry expiration now) now).reply.cas; seqno = w.high + 1; deleted = false } in
+    let doc : Doc = next_doc w value flags (stored_expiry expiration now) false now in
     ap (λ (a : Answer). live (apply w a.effect) other moment) e
     ∙ ap (λ o. live_of o moment) (get-put_other w key other doc differ)

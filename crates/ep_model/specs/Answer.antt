@@ -1,14 +1,18 @@
 -- What a call is answered in a world, and what it does to it. Memory, a store and other callers have no part
--- in this.
-use Rattle.std.specs.Prelude.{ℕ, ◌+◌, false, nat_lt, ◌==◌, ◌||◌, if◌then◌else◌, List, [], Option, Some, None}
+-- in this. The checks of each call stand in the order in which they are made.
+use Rattle.std.specs.Prelude.{ℕ, ◌+◌, ◌-◌, ◌%◌, ◌^◌, Bool, false, ◌==◌, if◌then◌else◌, List, [], ◌∷◌, ◌++◌, length, Option, Some, None, decimal}
+use Rattle.std.specs.Option.{option_map}
+use Rattle.std.specs.Int.{w16, w32, w64, to_be_bytes}
 use Rattle.ep_model.specs.declared.call.VbState.{VbState}
 use Rattle.ep_model.specs.declared.call.VbState.TheVariants.{Active, Replica, Pending, Dead}
-use Rattle.ep_model.specs.declared.call.StoreKind.TheVariants as kinds
+use Rattle.ep_model.specs.declared.call.StoreKind.{StoreKind}
 use Rattle.ep_model.specs.declared.call.Reply.{Reply}
 use Rattle.ep_model.specs.declared.data.CallData.{CallData}
 use Rattle.ep_model.specs.declared.data.CallData.TheVariants.{Get, Store, Join, Count, Delete, Touch, Observe, Failovers, SetState, GetState}
-use Rattle.ep_model.specs.declared.status.TheConstants.{SUCCESS, KEY_NOT_FOUND, KEY_EXISTS, TOO_LARGE, NOT_MY_VBUCKET, OUT_OF_RANGE, UNKNOWN_COMMAND}
-use Rattle.ep_model.specs.World.{Doc, World, live, stamp, stored_expiry, doc_blocks, last_seqno, uuid_of, put}
+use Rattle.ep_model.specs.declared.status.TheConstants.{SUCCESS, KEY_NOT_FOUND, NOT_STORED, BAD_DELTA}
+use Rattle.ep_model.specs.World.{Doc, World, live, stored_expiry, uuid_of, next_doc, tombstone, put}
+use Rattle.ep_model.specs.Refusals.{has_key, state_refusal, size_refusal, join_refusal, cas_refusal, wanted_refusal, store_refusal, new_count_refusal, number_refusal}
+use Rattle.ep_model.specs.Decimal.{number_of}
 
 -- what a call does: nothing, one document for one key, or a state
 pub data Effect : Type 0 where
@@ -25,51 +29,141 @@ pub record Answer : Type 0 where
 abbrev pub refused : ℕ → Answer
 refused status = record { reply = record { status = status; cas = 0; flags = 0; uuid = 0; seqno = 0 }; value = []; effect = Nothing }
 
--- The effect that puts a document. Where the numbers have run out there is none.
+-- refused by a status, or where there is none done
+abbrev pub unless : Option ℕ → Answer → Answer
+unless None done = done
+unless (Some status) done = refused status
+
+-- success without an effect
+abbrev pub shows : ℕ → ℕ → List ℕ → Answer
+shows cas flags value = record { reply = record { status = SUCCESS; cas = cas; flags = flags; uuid = 0; seqno = 0 }; value = value; effect = Nothing }
+
+-- success with the effect that puts a document, shown with its numbers, flags and a value
+abbrev pub put_success : World → List ℕ → Doc → ℕ → List ℕ → Answer
+put_success w key doc flags value = record {
+  reply = record { status = SUCCESS; cas = doc.cas; flags = flags; uuid = uuid_of w.failovers; seqno = doc.seqno };
+  value = value;
+  effect = Puts key doc;
+}
+
+-- the same, refused where the sequence numbers have run out
+abbrev pub puts : World → List ℕ → Doc → ℕ → List ℕ → Answer
+puts w key doc flags value = unless (number_refusal w.high) (put_success w key doc flags value)
+
+-- the effect of a call that shows nothing of the document
 abbrev pub stores : World → List ℕ → List ℕ → ℕ → ℕ → ℕ → Answer
-stores w key value flags expiry now =
-    if w.high == last_seqno then refused OUT_OF_RANGE else record {
-      reply = record { status = SUCCESS; cas = stamp w now; flags = 0; uuid = uuid_of w.failovers; seqno = w.high + 1 };
-      value = [];
-      effect = Puts key (record { value = value; flags = flags; expiry = expiry; cas = stamp w now; seqno = w.high + 1; deleted = false });
-    }
+stores w key value flags expiry now = puts w key (next_doc w value flags expiry false now) 0 []
+
+-- the effect of a counter, which shows the number as 8 bytes, the highest first
+abbrev pub counts : World → List ℕ → ℕ → ℕ → ℕ → ℕ → Answer
+counts w key number flags expiry now = puts w key (next_doc w (decimal number) flags expiry false now) 0 (to_be_bytes w64 number)
+
+-- the CAS of the live document, if there is one
+abbrev pub cas_of : Option Doc → Option ℕ
+cas_of found = option_map (λ (d : Doc). d.cas) found
 
 -- Get: the live document
-abbrev pub shown : Option Doc → Answer
-shown None = refused KEY_NOT_FOUND
-shown (Some doc) = record { reply = record { status = SUCCESS; cas = doc.cas; flags = doc.flags; uuid = 0; seqno = 0 }; value = doc.value; effect = Nothing }
+abbrev pub answer_get : Option Doc → Answer
+answer_get None = refused KEY_NOT_FOUND
+answer_get (Some doc) = shows doc.cas doc.flags doc.value
 
--- A CAS that isn't 0 asks for a live document that has it; else the answer is `done`.
-abbrev pub under_cas : ℕ → Option Doc → Answer → Answer
-under_cas cas None done = if cas == 0 then done else refused KEY_NOT_FOUND
-under_cas cas (Some doc) done = if cas == 0 || cas == doc.cas then done else refused KEY_EXISTS
+-- Set, Add and Replace
+abbrev pub answer_store : StoreKind → World → List ℕ → List ℕ → ℕ → ℕ → ℕ → ℕ → Answer
+answer_store kind w key value flags expiration cas now =
+    unless (size_refusal w.fit (length key) (length value)) (
+    unless (store_refusal kind cas (cas_of (live w key now))) (
+    stores w key value flags (stored_expiry expiration now) now))
 
-abbrev pub answer_set : World → List ℕ → List ℕ → ℕ → ℕ → ℕ → ℕ → Answer
-answer_set w key value flags expiration cas now =
-    if nat_lt w.fit (doc_blocks key value) then refused TOO_LARGE else
-    under_cas cas (live w key now) (stores w key value flags (stored_expiry expiration now) now)
+-- Delete: a tombstone
+abbrev pub answer_delete : World → List ℕ → ℕ → ℕ → Answer
+answer_delete w key cas now =
+    unless (wanted_refusal cas (cas_of (live w key now))) (
+    puts w key (tombstone w now) 0 [])
 
--- a call with a key wants an active vBucket
-abbrev pub if_active : VbState → Answer → Answer
-if_active Active done = done
-if_active Replica done = refused NOT_MY_VBUCKET
-if_active Pending done = refused NOT_MY_VBUCKET
-if_active Dead done = refused NOT_MY_VBUCKET
+-- Prepend where `front` is true, else Append
+abbrev pub joined : Bool → List ℕ → List ℕ → List ℕ
+joined front value piece = if front then piece ++ value else value ++ piece
 
--- The answer of an opened vBucket. Get and Set are served so far; the others are commands that it doesn't know.
+-- Append and Prepend to the live document: its flags and its expiry stay
+abbrev pub answer_join : Bool → World → List ℕ → List ℕ → ℕ → ℕ → Option Doc → Answer
+answer_join front w key piece cas now None = refused NOT_STORED
+answer_join front w key piece cas now (Some doc) =
+    unless (cas_refusal cas (Some doc.cas)) (
+    unless (join_refusal w.fit (length key) (length doc.value + length piece)) (
+    stores w key (joined front doc.value piece) doc.flags doc.expiry now))
+
+-- The new number of a counter: a sum is taken modulo 2^64, and nothing is below 0.
+abbrev pub counted : Bool → ℕ → ℕ → ℕ
+counted down number delta = if down then number - delta else (number + delta) % 2 ^ 64
+
+-- a counter of this number, if it is one, goes on
+abbrev pub counts_on : Bool → World → List ℕ → ℕ → ℕ → Doc → Option ℕ → Answer
+counts_on down w key delta now doc None = refused BAD_DELTA
+counts_on down w key delta now doc (Some number) = counts w key (counted down number delta) doc.flags doc.expiry now
+
+-- Increment and Decrement: without a live document the initial value is stored
+abbrev pub answer_count : Bool → World → List ℕ → ℕ → ℕ → ℕ → ℕ → ℕ → Option Doc → Answer
+answer_count down w key delta initial expiration cas now None =
+    unless (new_count_refusal cas expiration) (
+    counts w key initial 0 (stored_expiry expiration now) now)
+answer_count down w key delta initial expiration cas now (Some doc) =
+    unless (cas_refusal cas (Some doc.cas)) (
+    counts_on down w key delta now doc (number_of doc.value))
+
+-- flags and value of a document, which Get-and-touch shows and Touch doesn't
+abbrev pub shown_flags : Bool → Doc → ℕ
+shown_flags fetch doc = if fetch then doc.flags else 0
+
+abbrev pub shown_value : Bool → Doc → List ℕ
+shown_value fetch doc = if fetch then doc.value else []
+
+-- Touch and Get-and-touch: an effect only where the stored expiry differs
+abbrev pub answer_touch : Bool → World → List ℕ → ℕ → ℕ → Option Doc → Answer
+answer_touch fetch w key expiration now None = refused KEY_NOT_FOUND
+answer_touch fetch w key expiration now (Some doc) =
+    if stored_expiry expiration now == doc.expiry then shows doc.cas (shown_flags fetch doc) (shown_value fetch doc) else
+    puts w key (next_doc w doc.value doc.flags (stored_expiry expiration now) false now) (shown_flags fetch doc) (shown_value fetch doc)
+
+-- a zero byte, the vBucket's id, the newest uuid, and the stored and the greatest sequence number
+abbrev pub observed : World → List ℕ
+observed w = 0 ∷ to_be_bytes w16 w.id ++ to_be_bytes w64 (uuid_of w.failovers) ++ to_be_bytes w64 w.persisted ++ to_be_bytes w64 w.high
+
+-- ObserveSeqno, under the newest uuid
+abbrev pub answer_observe : World → ℕ → Answer
+answer_observe w uuid = if uuid == uuid_of w.failovers then shows 0 0 (observed w) else refused KEY_NOT_FOUND
+
+-- the failover table: a uuid and a sequence number for each entry, the newest first
+abbrev pub failover_bytes : List (ℕ × ℕ) → List ℕ
+failover_bytes [] = []
+failover_bytes (entry ∷ older) = to_be_bytes w64 entry.0 ++ to_be_bytes w64 entry.1 ++ failover_bytes older
+
+-- a state's number in the protocol
+abbrev pub state_code : VbState → ℕ
+state_code Active = 1
+state_code Replica = 2
+state_code Pending = 3
+state_code Dead = 4
+
+-- SetVBucket sets the state and no document
+abbrev pub answer_set_state : VbState → Answer
+answer_set_state state = record { reply = record { status = SUCCESS; cas = 0; flags = 0; uuid = 0; seqno = 0 }; value = []; effect = Sets state }
+
+-- the row of each call
+abbrev pub answer_row : World → CallData → ℕ → Answer
+answer_row w (Get key) now = answer_get (live w key now)
+answer_row w (Store kind key value flags expiration cas) now = answer_store kind w key value flags expiration cas now
+answer_row w (Join front key value cas) now = answer_join front w key value cas now (live w key now)
+answer_row w (Count down key delta initial expiration cas) now = answer_count down w key delta initial expiration cas now (live w key now)
+answer_row w (Delete key cas) now = answer_delete w key cas now
+answer_row w (Touch key expiration fetch) now = answer_touch fetch w key expiration now (live w key now)
+answer_row w (Observe uuid) now = answer_observe w uuid
+answer_row w Failovers now = shows 0 0 (failover_bytes w.failovers)
+answer_row w (SetState state) now = answer_set_state state
+answer_row w GetState now = shows 0 0 (to_be_bytes w32 (state_code w.state))
+
+-- The answer of an opened vBucket. A call with a key wants it active, and then its row applies.
 abbrev pub answer : World → CallData → ℕ → Answer
-answer w (Get key) now = if_active w.state (shown (live w key now))
-answer w (Store kinds.Set key value flags expiration cas) now = if_active w.state (answer_set w key value flags expiration cas now)
-answer w (Store kinds.Add key value flags expiration cas) now = refused UNKNOWN_COMMAND
-answer w (Store kinds.Replace key value flags expiration cas) now = refused UNKNOWN_COMMAND
-answer w (Join front key value cas) now = refused UNKNOWN_COMMAND
-answer w (Count down key delta initial expiration cas) now = refused UNKNOWN_COMMAND
-answer w (Delete key cas) now = refused UNKNOWN_COMMAND
-answer w (Touch key expiration fetch) now = refused UNKNOWN_COMMAND
-answer w (Observe uuid) now = refused UNKNOWN_COMMAND
-answer w Failovers now = refused UNKNOWN_COMMAND
-answer w (SetState state) now = refused UNKNOWN_COMMAND
-answer w GetState now = refused UNKNOWN_COMMAND
+answer w call now = unless (state_refusal w.state (has_key call)) (answer_row w call now)
 
 -- the world after an effect
 abbrev pub apply : World → Effect → World

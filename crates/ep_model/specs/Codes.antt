@@ -38,9 +38,9 @@ abbrev coded_state : Coded VbState
 coded_state = code_by (Bool × Bool) (coded× coded_bool coded_bool) state_number numbered_state numbered_state-state_number
 
 abbrev pub coded_world : Coded World
-coded_world = code_by (Docs × (ℕ × (ℕ × (VbState × (List (ℕ × ℕ) × (ℕ × (Bool × ℕ)))))))
-    (coded× (map.code coded_key coded_doc) (coded× coded_ℕ (coded× coded_ℕ (coded× coded_state
-    (coded× (coded_list (coded× coded_ℕ coded_ℕ)) (coded× coded_ℕ (coded× coded_bool coded_ℕ)))))))
-    (λ w. (w.docs, (w.high, (w.maxcas, (w.state, (w.failovers, (w.persisted, (w.opened, w.fit))))))))
-    (λ t. record { docs = t.0; high = t.1.0; maxcas = t.1.1.0; state = t.1.1.1.0; failovers = t.1.1.1.1.0; persisted = t.1.1.1.1.1.0; opened = t.1.1.1.1.1.1.0; fit = t.1.1.1.1.1.1.1 })
+coded_world = code_by (ℕ × (Docs × (ℕ × (ℕ × (VbState × (List (ℕ × ℕ) × (ℕ × (Bool × ℕ))))))))
+    (coded× coded_ℕ (coded× (map.code coded_key coded_doc) (coded× coded_ℕ (coded× coded_ℕ (coded× coded_state
+    (coded× (coded_list (coded× coded_ℕ coded_ℕ)) (coded× coded_ℕ (coded× coded_bool coded_ℕ))))))))
+    (λ w. (w.id, (w.docs, (w.high, (w.maxcas, (w.state, (w.failovers, (w.persisted, (w.opened, w.fit)))))))))
+    (λ t. record { id = t.0; docs = t.1.0; high = t.1.1.0; maxcas = t.1.1.1.0; state = t.1.1.1.1.0; failovers = t.1.1.1.1.1.0; persisted = t.1.1.1.1.1.1.0; opened = t.1.1.1.1.1.1.1.0; fit = t.1.1.1.1.1.1.1.1 })
     (λ _. refl)

@@ -9,7 +9,7 @@ use Rattle.ep_model.specs.declared.data.CallData.{CallData}
 use Rattle.ep_model.specs.declared.data.CallData.TheVariants.{Get, Store, Join, Count, Delete, Touch, Observe, Failovers, SetState, GetState}
 use Rattle.ep_model.specs.declared.data.EventData.{EventData}
 use Rattle.ep_model.specs.declared.data.EventData.TheVariants.{Called, Refused, Expired, Persisted, Marked, Asked, ReadFailed, Opened}
-use Rattle.ep_model.specs.World.{Doc, World, stamp, put}
+use Rattle.ep_model.specs.World.{World, tombstone, put}
 use Rattle.ep_model.specs.Answer.{answer, apply}
 
 -- a call and an event without where their bytes lie
@@ -34,10 +34,6 @@ event_data (events.Marked stripe number) = Marked stripe number
 event_data (events.Asked ticket caller call) = Asked ticket caller (call_data call)
 event_data (events.ReadFailed ticket fault) = ReadFailed ticket fault
 event_data events.Opened = Opened
-
--- what is left of an expired document
-abbrev pub tombstone : World → ℕ → Doc
-tombstone w now = record { value = []; flags = 0; expiry = 0; cas = stamp w now; seqno = w.high + 1; deleted = true }
 
 -- the world after one more event
 abbrev pub step : World → EventData → World

@@ -1,5 +1,5 @@
 -- Laws of histories and of answers.
-use Rattle.std.specs.Prelude.{◌≡◌, ◌≢◌, ◌<◌, ◌⊎◌, ℕ, true, List, [], ◌∷◌, ◌++◌}
+use Rattle.std.specs.Prelude.{◌≡◌, ◌≢◌, ◌<◌, ◌^◌, ◌⊎◌, ℕ, true, List, [], ◌∷◌, ◌++◌, Some, decimal}
 use Rattle.ep_model.specs.declared.call.VbState.TheVariants.{Active}
 use Rattle.ep_model.specs.declared.call.StoreKind.TheVariants as kinds
 use Rattle.ep_model.specs.declared.data.CallData.TheVariants.{Get, Store}
@@ -7,6 +7,7 @@ use Rattle.ep_model.specs.declared.data.EventData.{EventData}
 use Rattle.ep_model.specs.declared.status.TheConstants.{SUCCESS}
 use Rattle.ep_model.specs.World.{World, live, secs, stored_expiry}
 use Rattle.ep_model.specs.Answer.{Answer, Nothing, answer, apply}
+use Rattle.ep_model.specs.Decimal.{number_of}
 use Rattle.ep_model.specs.History.{May, IsLegal}
 
 -- a legal history stays legal with one more event that may happen
@@ -43,3 +44,7 @@ SetKeepsOthers =
     (w : World) (key value : List ℕ) (flags expiration cas now : ℕ) → w.opened ≡ true → w.state ≡ Active →
     (answer w (Store kinds.Set key value flags expiration cas) now).reply.status ≡ SUCCESS →
     KeepsOthers w (apply w (answer w (Store kinds.Set key value flags expiration cas) now).effect) key
+
+-- the text of a number below 2^64 is read as that number
+abbrev pub DecimalIsReadBack : Type 0
+DecimalIsReadBack = (n : ℕ) → n < 2 ^ 64 → number_of (decimal n) ≡ Some n

@@ -2,7 +2,8 @@ pub mod Limits
 pub mod World
 pub mod Answer
 pub mod History
-pub mod Cas
+pub mod Decimal
+pub mod Refusals
 pub mod Codes
 pub mod Laws
 pub mod Plain

@@ -1,12 +1,15 @@
 -- What the plain map's list of documents stands for.
-use Rattle.std.specs.Prelude.{ℕ, ◌+◌, ◌≤◌, ◌<◌, ◌^◌, true, List, [], map, Option}
+use Rattle.std.specs.Prelude.{◌≡◌, ◌≢◌, ℕ, ◌+◌, ◌≤◌, ◌<◌, ◌^◌, true, List, [], ◌++◌, length, map, Option, Some, None, Result, Ok, Err}
 use Rattle.std.specs.FinMap as finmap
 use Rattle.std.specs.List.{position_from}
 use Rattle.std.specs.Str.{bytes_eq}
-use Rattle.ep_model.specs.declared.call.VbState.TheVariants.{Active}
+use Rattle.ep_model.specs.declared.call.VbState.{VbState}
+use Rattle.ep_model.specs.declared.call.Reply.{Reply}
+use Rattle.ep_model.specs.declared.data.OutData.{OutData}
 use Rattle.ep_model.specs.declared.document.Document.{Document}
-use Rattle.ep_model.specs.declared.plain.TheConstants.{FIT}
+use Rattle.ep_model.specs.declared.memory.NoMemory.{NoMemory}
 use Rattle.ep_model.specs.World.{Doc, Docs, World}
+use Rattle.ep_model.specs.Answer.{Answer, Nothing, apply}
 
 -- a document without where its bytes lie
 abbrev pub doc_of : Document → Doc
@@ -24,20 +27,37 @@ docs_of documents = finmap.from_entries (map entry_of documents)
 abbrev pub place_of : List Document → List ℕ → Option ℕ
 place_of documents key = position_from (λ (d : Document). bytes_eq d.key.items key) 0 documents
 
--- the world of a vBucket that is open and active, without failovers and with nothing stored
-abbrev pub world_of : List Document → ℕ → ℕ → World
-world_of documents high maxcas = record {
+-- the world of a vBucket that is open, without failovers and with nothing stored
+abbrev pub world_of : ℕ → ℕ → VbState → List Document → ℕ → ℕ → World
+world_of id fit state documents high maxcas = record {
+  id = id;
   docs = docs_of documents;
   high = high;
   maxcas = maxcas;
-  state = Active;
+  state = state;
   failovers = [];
   persisted = 0;
   opened = true;
-  fit = FIT;
+  fit = fit;
 }
 
 -- the numbers leave room for the next ones
 pub record IsSound (high maxcas : ℕ) : Type 0 where
   pub numbers : high < 2 ^ 48
   pub stamps : maxcas ≤ 2 ^ 62 + high
+
+-- the value of a document, or nothing
+abbrev pub value_of : Option Doc → List ℕ
+value_of None = []
+value_of (Some doc) = doc.value
+
+-- What a call without a value leaves of a world. With a reply all is as the answer says. Without one nothing has
+-- changed, and something was to be kept.
+abbrev pub Does : Answer → World → World → Result Reply NoMemory → Type 0
+Does a old new (Ok reply) = (reply ≡ a.reply) × (a.value ≡ []) × (new ≡ apply old a.effect)
+Does a old new (Err e) = (new ≡ old) × (a.effect ≢ Nothing)
+
+-- The same of a call whose value goes into a buffer, which keeps its room.
+abbrev pub Serves : Answer → World → World → OutData → OutData → Result Reply NoMemory → Type 0
+Serves a old new out more (Ok reply) = (reply ≡ a.reply) × (more.bytes ≡ out.bytes ++ a.value) × (new ≡ apply old a.effect) × (more.spare + length more.bytes ≡ out.spare + length out.bytes)
+Serves a old new out more (Err e) = (new ≡ old) × (more ≡ out) × (a.effect ≢ Nothing)

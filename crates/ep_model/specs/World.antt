@@ -1,5 +1,5 @@
 -- The world of a vBucket: its documents and numbers, apart from how memory and a store hold them.
-use Rattle.std.specs.Prelude.{ℕ, ◌+◌, ◌-◌, ◌/◌, ◌%◌, ◌^◌, Bool, false, not, nat_lt, nat_le, ◌==◌, ◌&&◌, ◌||◌, if◌then◌else◌, min, max, List, [], ◌∷◌, length, Option, Some, None}
+use Rattle.std.specs.Prelude.{ℕ, ◌+◌, ◌-◌, ◌/◌, ◌%◌, ◌^◌, Bool, true, false, not, nat_lt, nat_le, ◌==◌, ◌&&◌, ◌||◌, if◌then◌else◌, min, max, List, [], ◌∷◌, length, Option, Some, None}
 use Rattle.std.specs.Ordering.{nat_cmp}
 use Rattle.std.specs.Cmp.Lexicographic.{slice_cmp}
 use Rattle.std.specs.FinMap as map
@@ -19,9 +19,10 @@ pub record Doc : Type 0 where
 abbrev pub Docs : Type 0
 Docs = FinMap (slice_cmp nat_cmp) Doc
 
--- `fit` is the number of blocks that a document may take at most, `failovers` pairs of a uuid and a
--- sequence number, newest first.
+-- `id` is the vBucket's, `fit` the number of blocks that a document may take at most, `failovers` pairs of a uuid
+-- and a sequence number, newest first.
 pub record World : Type 0 where
+  pub id : ℕ
   pub docs : Docs
   pub high : ℕ
   pub maxcas : ℕ
@@ -32,8 +33,8 @@ pub record World : Type 0 where
   pub fit : ℕ
 
 -- active, and nothing else yet
-abbrev pub empty_world : ℕ → World
-empty_world fit = record { docs = map.empty; high = 0; maxcas = 0; state = Active; failovers = []; persisted = 0; opened = false; fit = fit }
+abbrev pub empty_world : ℕ → ℕ → World
+empty_world id fit = record { id = id; docs = map.empty; high = 0; maxcas = 0; state = Active; failovers = []; persisted = 0; opened = false; fit = fit }
 
 -- a moment's seconds since 1970
 abbrev pub secs : ℕ → ℕ
@@ -77,6 +78,14 @@ last_seqno = 2 ^ 48 - 1
 abbrev pub uuid_of : List (ℕ × ℕ) → ℕ
 uuid_of [] = 0
 uuid_of (entry ∷ older) = entry.0
+
+-- a document that takes the next CAS and the next sequence number
+abbrev pub next_doc : World → List ℕ → ℕ → ℕ → Bool → ℕ → Doc
+next_doc w value flags expiry deleted now = record { value = value; flags = flags; expiry = expiry; cas = stamp w now; seqno = w.high + 1; deleted = deleted }
+
+-- what is left of a document that is deleted or removed
+abbrev pub tombstone : World → ℕ → Doc
+tombstone w now = next_doc w [] 0 0 true now
 
 -- the world with this document in place of the key's, which the greatest numbers now belong to
 abbrev pub put : World → List ℕ → Doc → World

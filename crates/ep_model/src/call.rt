@@ -1,4 +1,5 @@
 // The calls of a client on one vBucket, and what answers them.
+use crate::status::SUCCESS;
 
 /// A vBucket's state. The numbers are those of the memcached binary protocol as kv_engine extends it.
 #[derive(Clone, Copy, Debug, PartialEq, Eq)]
@@ -96,7 +97,8 @@ pub struct Meta {
 
 impl Reply {
     ghost use Rattle.std.specs.Prelude.{◌≡◌};
-    ghost use Rattle.ep_model.specs.Answer.{refused};
+    ghost use Rattle.std.specs.Prelude.{[]};
+    ghost use Rattle.ep_model.specs.Answer.{refused, shows};
 
     /// A status alone.
     pub fn refusal(status: u16) -> Reply
@@ -108,6 +110,52 @@ impl Reply {
             flags: 0,
             uuid: 0,
             seqno: 0,
+        }
+    }
+    /// Success alone.
+    pub fn success() -> Reply
+        ensures { result ≡ (shows 0 0 []).reply }
+    {
+        Reply::refusal(SUCCESS)
+    }
+}
+
+impl VbState {
+    ghost use Rattle.std.specs.Prelude.{◌≡◌};
+    ghost use Rattle.ep_model.specs.Answer.{state_code};
+
+    /// The state's number in the protocol, 1 to 4.
+    pub fn code(self) -> u32
+        ensures { result ≡ state_code self }
+    {
+        match self {
+            VbState::Active => 1,
+            VbState::Replica => 2,
+            VbState::Pending => 3,
+            VbState::Dead => 4,
+        }
+    }
+}
+
+impl Call<'_> {
+    ghost use Rattle.std.specs.Prelude.{◌≡◌};
+    ghost use Rattle.ep_model.specs.Refusals.{has_key};
+    ghost use Rattle.ep_model.specs.History.{call_data};
+
+    /// Whether the call is on a key, and not on the vBucket as a whole.
+    pub fn has_key(&self) -> bool
+        ensures { result ≡ has_key (call_data self.now) }
+    {
+        match self {
+            Call::Get { .. }
+            | Call::Store { .. }
+            | Call::Join { .. }
+            | Call::Count { .. }
+            | Call::Delete { .. }
+            | Call::Touch { .. } => true,
+            Call::Observe { .. } | Call::Failovers | Call::SetState { .. } | Call::GetState => {
+                false
+            }
         }
     }
 }

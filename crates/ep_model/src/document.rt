@@ -16,3 +16,40 @@ pub struct Document {
     pub deleted: bool,
     ghost fits: { length value.items ≤ MAX_VALUE },
 }
+
+/// A document before it has its key and its numbers.
+#[derive(Drop)]
+pub struct Draft {
+    pub value: Vec<u8>,
+    pub flags: u32,
+    pub expiry: u32,
+    pub deleted: bool,
+    ghost fits: { length value.items ≤ MAX_VALUE },
+}
+
+impl Draft {
+    ghost use Rattle.std.specs.Prelude.{◌≡◌};
+    ghost use Rattle.ep_model.specs.Plain.{doc_of};
+
+    /// The document of this key, under these numbers.
+    pub fn document(self, key: Vec<u8>, cas: u64, seqno: u64) -> Document
+        ensures key { result.key.items ≡ key.items }
+        ensures document { doc_of result ≡ record { value = self.value.items; flags = self.flags; expiry = self.expiry; cas = cas; seqno = seqno; deleted = self.deleted } }
+    {
+        let Draft {
+            value,
+            flags,
+            expiry,
+            deleted,
+        } = self;
+        Document {
+            key,
+            value,
+            flags,
+            expiry,
+            cas,
+            seqno,
+            deleted,
+        }
+    }
+}

@@ -1,5 +1,5 @@
 //! Laws of histories and of answers. Each function does nothing: its contract is the law, over all worlds.
-ghost use Rattle.ep_model.specs.Laws.{LegalHistoriesGrow, FrontsAreLegal, SetIsReadBack, SetKeepsOthers};
+ghost use Rattle.ep_model.specs.Laws.{LegalHistoriesGrow, FrontsAreLegal, SetIsReadBack, SetKeepsOthers, DecimalIsReadBack};
 
 /// Histories are kept by noting one event at a time, and read a front at a time. So what is noted only where
 /// it may happen is legal as a whole, and at each moment so far.
@@ -13,4 +13,9 @@ pub fn legal_histories_grow()
 pub fn set_is_read_back()
     ensures read { SetIsReadBack }
     ensures others { SetKeepsOthers }
+{}
+
+/// The text that a counter stores is a number value, and its number is the counter's.
+pub fn decimal_is_read_back()
+    ensures { DecimalIsReadBack }
 {}

@@ -5,6 +5,7 @@
 mod call;
 mod config;
 mod data;
+mod decimal;
 mod document;
 mod event;
 pub mod laws;

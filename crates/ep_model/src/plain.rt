@@ -1,30 +1,40 @@
 // The plain map: the program that the definitions describe, over a flat list of documents. It is the oracle of
 // tests, and for now what a session serves.
-ghost use Rattle.std.specs.Prelude.{◌≡◌, ◌≢◌, ◌+◌, ◌≤◌, ◌<◌, ◌^◌, ◌++◌, length, true, IfOk, OnOk, OnErr, option_and_then, slice_get};
-ghost use Rattle.std.specs.Option.{option_map, option_copied, ForSome};
-ghost use Rattle.std.specs.FinMap as finmap;
-ghost use Rattle.ep_model.specs.declared.call.StoreKind.TheVariants as kinds;
-ghost use Rattle.ep_model.specs.declared.data.CallData.TheVariants.{Get, Store};
-ghost use Rattle.ep_model.specs.World.{empty_world, live_of};
-ghost use Rattle.ep_model.specs.Limits.{IsWithin, IsValue};
-ghost use Rattle.ep_model.specs.Answer.{Nothing, answer, apply};
-ghost use Rattle.ep_model.specs.History.{call_data};
-ghost use Rattle.ep_model.specs.Plain.{doc_of, docs_of, place_of};
+mod counters;
+mod documents;
+mod reads;
+mod states;
+mod stores;
 
-use crate::document::Document;
+ghost use Rattle.std.specs.Prelude.{◌≡◌, ◌≢◌, ◌+◌, ◌≤◌, ◌<◌, ◌^◌, ◌++◌, [], length, true, None, IfOk, OnOk, OnErr, decimal};
+ghost use Rattle.std.specs.FinMap as finmap;
+ghost use Rattle.std.specs.Option.{option_map, option_copied};
+ghost use Rattle.ep_model.specs.World.{empty_world, live, next_doc};
+ghost use Rattle.ep_model.specs.Limits.{IsWithin};
+ghost use Rattle.ep_model.specs.Refusals.{number_refusal};
+ghost use Rattle.ep_model.specs.Answer.{Nothing, answer, answer_row, apply, cas_of, put_success};
+ghost use Rattle.ep_model.specs.History.{call_data};
+ghost use Rattle.ep_model.specs.Plain.{Does, Serves, doc_of, value_of};
+ghost use Rattle.ep_model.specs.declared.limits.TheConstants.{MAX_VALUE};
+
+use crate::document::{Document, Draft};
 use crate::limits::MAX_VALUE;
-use crate::{Call, NoMemory, Out, Reply, StoreKind, rules, status};
+use crate::{Call, NoMemory, Out, Reply, VbState, decimal, rules, status};
+use documents::{live_at, position_of, put_document};
 use std::alloc::Global;
 use std::marker::Model;
 
 /// How many blocks a document may take at most.
 const FIT: u32 = 16_777_216;
 
-/// The plain map of one vBucket that is open and active, under value eviction, with an empty failover table.
-/// A call's cost is linear in the number of documents and in the lengths of its key and value.
+/// The plain map of one vBucket that is open, under value eviction, with an empty failover table and nothing
+/// stored. A call's cost is linear in the number of documents and in the lengths of its key and value.
 #[derive(Drop)]
 pub struct Plain {
     alloc: Global,
+    id: u16,
+    fit: u32,
+    state: VbState,
     documents: Vec<Document>,
     high: u64,
     maxcas: u64,
@@ -39,18 +49,21 @@ impl Model for Plain {
 
     ghost coded = { coded_world };
 
-    ghost view = { λ p. world_of p.documents.items p.high p.maxcas };
+    ghost view = { λ p. world_of p.id p.fit p.state p.documents.items p.high p.maxcas };
 
     ghost invariant = { λ p. IsSound p.high p.maxcas };
 }
 
 impl Plain {
-    /// No document yet.
-    pub fn new(alloc: Global) -> Plain
-        ensures { result ≡ record (empty_world FIT) { opened = true } }
+    /// The vBucket of this id, active and with no document yet.
+    pub fn new(alloc: Global, id: u16) -> Plain
+        ensures { result ≡ record (empty_world id FIT) { opened = true } }
     {
         Plain {
             alloc,
+            id,
+            fit: FIT,
+            state: VbState::Active,
             documents: Vec::new(alloc),
             high: 0,
             maxcas: 0,
@@ -72,145 +85,136 @@ impl Plain {
         ensures memory { OnErr result ((answer self.old (call_data call.now) now).effect ≢ Nothing) }
         ensures room { value.new.spare + length value.new.bytes ≡ value.old.spare + length value.old.bytes }
     {
+        match rules::state_refusal(self.state(), call.has_key()) {
+            Some(refused) => Ok(Reply::refusal(refused)),
+            None => self.answer_row(call, now, value),
+        }
+    }
+
+    /// Answers a call that the vBucket's state allows.
+    fn answer_row(&mut self, call: &Call, now: u64, value: &mut Out) -> Result<Reply, NoMemory>
+        requires moment { now < 2 ^ 62 }
+        requires within { IsWithin (call_data call.now) }
+        requires spare { MAX_VALUE ≤ value.old.spare }
+        ensures { Serves (answer_row self.old (call_data call.now) now) self.old self.new value.old value.new result }
+    {
         match *call {
             Call::Get { key } => Ok(self.get(key, now, value)),
             Call::Store {
-                kind: StoreKind::Set,
+                kind,
                 key,
                 value: bytes,
                 flags,
                 expiration,
                 cas,
-            } => self.set(key, bytes, flags, expiration, cas, now),
-            Call::Store { .. }
-            | Call::Join { .. }
-            | Call::Count { .. }
-            | Call::Delete { .. }
-            | Call::Touch { .. }
-            | Call::Observe { .. }
-            | Call::Failovers
-            | Call::SetState { .. }
-            | Call::GetState => Ok(Reply::refusal(status::UNKNOWN_COMMAND)),
+            } => self.store(kind, key, bytes, flags, expiration, cas, now),
+            Call::Join {
+                front,
+                key,
+                value: piece,
+                cas,
+            } => self.join(front, key, piece, cas, now),
+            Call::Count {
+                down,
+                key,
+                delta,
+                initial,
+                expiration,
+                cas,
+            } => self.count(down, key, delta, initial, expiration, cas, now, value),
+            Call::Delete { key, cas } => self.delete(key, cas, now),
+            Call::Touch {
+                key,
+                expiration,
+                fetch,
+            } => self.touch(key, expiration, fetch, now, value),
+            Call::Observe { uuid } => Ok(self.observe(uuid, value)),
+            Call::Failovers => Ok(self.failovers()),
+            Call::SetState { state } => Ok(self.set_state(state)),
+            Call::GetState => Ok(self.get_state(value)),
         }
     }
 
-    fn get(&self, key: &[u8], now: u64, value: &mut Out) -> Reply
+    /// How many blocks a document may take at most.
+    fn fit(&self) -> u32
+        ensures { result ≡ self.now.fit }
+    {
+        self.fit
+    }
+
+    fn state(&self) -> VbState
+        ensures { result ≡ self.now.state }
+    {
+        self.state
+    }
+
+    /// The status by which any effect is refused, if it is.
+    fn number_refusal(&self) -> Option<u16>
+        ensures { result ≡ number_refusal self.now.high }
+    {
+        rules::number_refusal(self.high)
+    }
+
+    /// The live document of a key.
+    fn live(&self, key: &[u8], now: u64) -> Option<&Document>
+        ensures { option_map doc_of (option_copied result) ≡ live self.now key.now now }
+    {
+        let place = position_of(&self.documents, key);
+        live_at(&self.documents, place, now)
+    }
+
+    /// The CAS of the live document of a key.
+    fn live_cas(&self, key: &[u8], now: u64) -> Option<u64>
+        ensures { result ≡ cas_of (live self.now key.now now) }
+    {
+        Some(self.live(key, now)?.cas)
+    }
+
+    /// A copy of these bytes.
+    fn copy(&self, bytes: &[u8]) -> Result<Vec<u8>, NoMemory>
+        ensures items { IfOk result (λ v. v.items ≡ bytes.now) }
+    {
+        Ok(bytes.to_vec(self.alloc)?)
+    }
+
+    /// A number's text.
+    fn text(&self, number: u64) -> Result<Vec<u8>, NoMemory>
+        ensures text { IfOk result (λ v. v.items ≡ decimal number) }
+        ensures short { IfOk result (λ v. length v.items ≤ MAX_VALUE) }
+    {
+        decimal::text_of(self.alloc, number)
+    }
+
+    /// Appends the value of the document of a key, live or not.
+    fn show_value(&self, key: &[u8], value: &mut Out)
         requires { MAX_VALUE ≤ value.old.spare }
-        ensures reply { result ≡ (answer self.now (Get key.now) now).reply }
-        ensures value { value.new.bytes ≡ value.old.bytes ++ (answer self.now (Get key.now) now).value }
+        ensures bytes { value.new.bytes ≡ value.old.bytes ++ value_of (finmap.get self.now.docs key.now) }
         ensures room { value.new.spare + length value.new.bytes ≡ value.old.spare + length value.old.bytes }
     {
-        let place = position_of(&self.documents, key);
-        match live_at(&self.documents, place, now) {
-            None => Reply::refusal(status::KEY_NOT_FOUND),
-            Some(document) => {
-                value.push(&document.value);
-                Reply {
-                    status: status::SUCCESS,
-                    cas: document.cas,
-                    flags: document.flags,
-                    uuid: 0,
-                    seqno: 0,
-                }
-            }
+        if let Some(place) = position_of(&self.documents, key) {
+            value.push(&self.documents[place].value);
         }
     }
 
-    fn set(
-        &mut self,
-        key: &[u8],
-        value: &[u8],
-        flags: u32,
-        expiration: u32,
-        cas: u64,
-        now: u64,
-    ) -> Result<Reply, NoMemory>
+    /// Puts a document under the next numbers over the one of its key, and replies with these flags.
+    fn put(&mut self, key: &[u8], draft: Draft, flags: u32, now: u64) -> Result<Reply, NoMemory>
         requires moment { now < 2 ^ 62 }
-        requires within { IsValue value.now }
-
-        ensures reply { IfOk result (λ reply. reply ≡ (answer self.old (Store kinds.Set key.now value.now flags expiration cas) now).reply) }
-        ensures world { OnOk result (self.new ≡ apply self.old (answer self.old (Store kinds.Set key.now value.now flags expiration cas) now).effect) }
-        ensures err { OnErr result (self.new ≡ self.old) }
-        ensures memory { OnErr result ((answer self.old (Store kinds.Set key.now value.now flags expiration cas) now).effect ≢ Nothing) }
+        requires room { number_refusal self.old.high ≡ None }
+        ensures { Does (put_success self.old key.now (next_doc self.old draft.value.items draft.flags draft.expiry draft.deleted now) flags []) self.old self.new result }
     {
-        let high = self.high;
-        if rules::document_blocks(key, value) > FIT as usize {
-            return Ok(Reply::refusal(status::TOO_LARGE));
-        }
+        let cas = rules::stamp(self.maxcas, now);
+        let seqno = self.high + 1;
         let place = position_of(&self.documents, key);
-        let current = live_cas(&self.documents, place, now);
-        if let Some(refused) = rules::cas_refusal(cas, current) {
-            return Ok(Reply::refusal(refused));
-        }
-        if high == rules::LAST_SEQNO {
-            return Ok(Reply::refusal(status::OUT_OF_RANGE));
-        }
-        let stamp = rules::stamp(self.maxcas, now);
-        let seqno = high + 1;
-        let document = Document {
-            key: key.to_vec(self.alloc)?,
-            value: value.to_vec(self.alloc)?,
-            flags,
-            expiry: rules::stored_expiry(expiration, now),
-            cas: stamp,
-            seqno,
-            deleted: false,
-        };
-        put(&mut self.documents, place, document)?;
+        let key = key.to_vec(self.alloc)?;
+        put_document(&mut self.documents, place, draft.document(key, cas, seqno))?;
         self.high = seqno;
-        self.maxcas = stamp;
+        self.maxcas = cas;
         Ok(Reply {
             status: status::SUCCESS,
-            cas: stamp,
-            flags: 0,
+            cas,
+            flags,
             uuid: 0,
             seqno,
         })
     }
-}
-
-/// The place of the first document of a key.
-fn position_of(documents: &[Document], key: &[u8]) -> Option<usize>
-    ensures place { result ≡ place_of documents.now key.now }
-    ensures within { ForSome result (λ i. i < length documents.now) }
-{
-    documents.iter().position(|d| d.key.as_slice() == key)
-}
-
-/// The document at a place, if it is live.
-fn live_at(documents: &[Document], place: Option<usize>, now: u64) -> Option<&Document>
-    requires { ForSome place (λ i. i < length documents.now) }
-    ensures { option_map doc_of (option_copied result) ≡ live_of (option_map doc_of (option_and_then (slice_get documents.now) place)) now }
-{
-    let document = &documents[place?];
-    if rules::is_live(document.deleted, document.expiry, now) {
-        Some(document)
-    } else {
-        None
-    }
-}
-
-/// The CAS of the document at a place, if it is live.
-fn live_cas(documents: &[Document], place: Option<usize>, now: u64) -> Option<u64>
-    requires { ForSome place (λ i. i < length documents.now) }
-    ensures { result ≡ option_map (λ d. d.cas) (live_of (option_map doc_of (option_and_then (slice_get documents.now) place)) now) }
-{
-    Some(live_at(documents, place, now)?.cas)
-}
-
-/// Puts a document in place of the one of its key, or at the end where there is none.
-fn put(
-    documents: &mut Vec<Document>,
-    place: Option<usize>,
-    document: Document,
-) -> Result<(), NoMemory>
-    requires { place ≡ place_of documents.old.items document.key.items }
-    ensures ok { OnOk result (docs_of documents.new.items ≡ finmap.insert (docs_of documents.old.items) document.key.items (doc_of document)) }
-    ensures err { OnErr result (documents.new.items ≡ documents.old.items) }
-{
-    match place {
-        Some(place) => documents[place] = document,
-        None => documents.push(document)?,
-    }
-    Ok(())
 }

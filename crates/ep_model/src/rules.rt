@@ -1,9 +1,12 @@
 //! The rules on numbers: moments, expiries, CAS values, sequence numbers and blocks.
 ghost use Rattle.std.specs.Prelude.{◌≡◌, ◌+◌, ◌<◌, ◌^◌, []};
 ghost use Rattle.ep_model.specs.World.{secs, is_live, stamp, stored_expiry, blocks, doc_blocks, empty_world};
-ghost use Rattle.ep_model.specs.Cas.{cas_refusal};
+ghost use Rattle.ep_model.specs.Refusals.{state_refusal, size_refusal, join_refusal, cas_refusal, wanted_refusal, store_refusal, new_count_refusal, number_refusal};
+ghost use Rattle.ep_model.specs.Answer.{counted};
 
-use crate::status::{KEY_EXISTS, KEY_NOT_FOUND};
+use crate::limits::MAX_VALUE;
+use crate::status::{KEY_EXISTS, KEY_NOT_FOUND, NOT_MY_VBUCKET, OUT_OF_RANGE, TOO_LARGE};
+use crate::{StoreKind, VbState};
 
 /// The greatest sequence number of a vBucket.
 pub const LAST_SEQNO: u64 = 0xffff_ffff_ffff;
@@ -32,7 +35,7 @@ pub fn is_live(deleted: bool, expiry: u32, now: u64) -> bool
 /// than the greatest CAS so far where that is greater.
 pub fn stamp(maxcas: u64, now: u64) -> u64
     requires { maxcas + 1 < 2 ^ 64 }
-    ensures { result ≡ stamp (record (empty_world 0) { maxcas = maxcas }) now }
+    ensures { result ≡ stamp (record (empty_world 0 0) { maxcas = maxcas }) now }
 {
     (maxcas + 1).max(now - now % 65_536)
 }
@@ -76,5 +79,100 @@ pub fn cas_refusal(cas: u64, current: Option<u64>) -> Option<u16>
         None => Some(KEY_NOT_FOUND),
         Some(current) if cas == current => None,
         Some(_) => Some(KEY_EXISTS),
+    }
+}
+
+/// The status by which a call is refused in a state, if it is. A call with a key wants an active vBucket.
+pub fn state_refusal(state: VbState, keyed: bool) -> Option<u16>
+    ensures { result ≡ state_refusal state keyed }
+{
+    match state {
+        VbState::Active => None,
+        VbState::Replica | VbState::Pending | VbState::Dead if keyed => Some(NOT_MY_VBUCKET),
+        VbState::Replica | VbState::Pending | VbState::Dead => None,
+    }
+}
+
+/// The status by which a document whose key and value have these lengths is refused, if it takes more than
+/// `fit` blocks.
+pub fn size_refusal(fit: u32, key_len: usize, value_len: usize) -> Option<u16>
+    requires key { key_len < 2 ^ 63 }
+    requires value { value_len < 2 ^ 63 }
+    ensures { result ≡ size_refusal fit key_len value_len }
+{
+    if blocks(key_len) + blocks(value_len) > fit as usize {
+        Some(TOO_LARGE)
+    } else {
+        None
+    }
+}
+
+/// The same for a joined value, which may be too long besides.
+pub fn join_refusal(fit: u32, key_len: usize, value_len: usize) -> Option<u16>
+    requires key { key_len < 2 ^ 63 }
+    requires value { value_len < 2 ^ 63 }
+    ensures { result ≡ join_refusal fit key_len value_len }
+{
+    if value_len > MAX_VALUE {
+        Some(TOO_LARGE)
+    } else {
+        size_refusal(fit, key_len, value_len)
+    }
+}
+
+/// The same as `cas_refusal` for a call that wants a live document.
+pub fn wanted_refusal(cas: u64, current: Option<u64>) -> Option<u16>
+    ensures { result ≡ wanted_refusal cas current }
+{
+    match current {
+        None => Some(KEY_NOT_FOUND),
+        Some(_) => cas_refusal(cas, current),
+    }
+}
+
+/// The status by which a Set, Add or Replace is refused beside the CAS of the live document, if it is. An Add
+/// wants none and doesn't read its CAS, a Replace wants one.
+pub fn store_refusal(kind: StoreKind, cas: u64, current: Option<u64>) -> Option<u16>
+    ensures { result ≡ store_refusal kind cas current }
+{
+    match (kind, current) {
+        (StoreKind::Set, _) => cas_refusal(cas, current),
+        (StoreKind::Add, None) => None,
+        (StoreKind::Add, Some(_)) => Some(KEY_EXISTS),
+        (StoreKind::Replace, _) => wanted_refusal(cas, current),
+    }
+}
+
+/// The status by which a counter that isn't there is refused, if it is: it is made without a CAS alone, and
+/// not under the expiration 0xffffffff.
+pub fn new_count_refusal(cas: u64, expiration: u32) -> Option<u16>
+    ensures { result ≡ new_count_refusal cas expiration }
+{
+    if cas != 0 || expiration == u32::MAX {
+        Some(KEY_NOT_FOUND)
+    } else {
+        None
+    }
+}
+
+/// The status by which any effect on a document is refused, if the sequence numbers have run out.
+pub fn number_refusal(high: u64) -> Option<u16>
+    ensures { result ≡ number_refusal high }
+{
+    if high == LAST_SEQNO {
+        Some(OUT_OF_RANGE)
+    } else {
+        None
+    }
+}
+
+/// A counter's new number. Increment wraps at 2^64, and Decrement stops at 0.
+pub fn counted(down: bool, number: u64, delta: u64) -> u64
+    ensures { result ≡ counted down number delta }
+{
+    if down {
+        number.saturating_sub(delta)
+    } else {
+        number.wrapping_add(delta)
     }
 }

@@ -8,6 +8,10 @@ pub const KEY_EXISTS: u16 = 0x02;
 
 pub const TOO_LARGE: u16 = 0x03;
 
+pub const NOT_STORED: u16 = 0x05;
+
+pub const BAD_DELTA: u16 = 0x06;
+
 pub const NOT_MY_VBUCKET: u16 = 0x07;
 
 pub const OUT_OF_RANGE: u16 = 0x22;

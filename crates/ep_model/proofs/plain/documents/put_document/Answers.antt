@@ -1,7 +1,7 @@
 use Rattle.std.proofs.Common.{◌<◌, rules, length, sym, ap, ◌∙◌}
 use Rattle.ep_model.specs.Plain.{docs_of}
 use Rattle.ep_model.proofs.PlainLemmas.{place-within, put-place, put-end}
-use Rattle.ep_model.proofs.plain.put.Goals as goal
+use Rattle.ep_model.proofs.plain.documents.put_document.Goals as goal
 
 pub index_mut-requires : goal.index_mut-requires
 index_mut-requires c =
