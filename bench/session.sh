@@ -1,5 +1,6 @@
 #!/usr/bin/env bash
-# Times a session of many frames, beside cat on the same stream: bench/session.sh [FRAMES]. It needs python3.
+# Times sessions of many frames, half Sets and half Gets or of many kinds, beside cat on the same streams:
+# bench/session.sh [FRAMES]. It needs python3.
 set -euo pipefail
 cd "$(dirname "$0")/.."
 
@@ -17,16 +18,51 @@ def frame(opcode, key, extras, value):
     return struct.pack(">BBHBBHIIQ", 0x80, opcode, len(key), len(extras), 0, 0, len(body), 0, 0) + body
 
 
-def write_stream(file, frames):
-    """Writes half Sets and half Gets, in turn, of keys by chance."""
+def get(key, chance):
+    return frame(0x00, key, b"", b"")
+
+
+def store(opcode):
+    return lambda key, chance: frame(opcode, key, bytes(8), b"%0*d" % (VALUE_SIZE, chance.randrange(10**9)))
+
+
+def delete(key, chance):
+    return frame(0x04, key, b"", b"")
+
+
+def increment(key, chance):
+    return frame(0x05, b"number-" + key, struct.pack(">QQI", chance.randrange(1000), 0, 0), b"")
+
+
+def append(key, chance):
+    return frame(0x0E, key, b"", b"12345678")
+
+
+def touch(key, chance):
+    return frame(0x1C, key, struct.pack(">I", 1 + chance.randrange(100)), b"")
+
+
+# What makes a frame, and how many of a hundred frames it makes.
+HALVES = [(get, 50), (store(0x01), 50)]
+MIXED = [
+    (get, 40),
+    (store(0x01), 30),
+    (store(0x02), 5),
+    (store(0x03), 5),
+    (delete, 5),
+    (increment, 5),
+    (append, 5),
+    (touch, 5),
+]
+
+
+def write_stream(file, frames, load):
+    """Writes frames by chance, of keys by chance."""
     chance = random.Random(1)
-    for number in range(frames):
-        key = chance.choice(KEYS)
-        if number % 2 == 0:
-            value = b"%0*d" % (VALUE_SIZE, number)
-            file.write(frame(0x01, key, bytes(8), value))
-        else:
-            file.write(frame(0x00, key, b"", b""))
+    makers = [make for make, share in load for _ in range(share)]
+    for _ in range(frames):
+        make = chance.choice(makers)
+        file.write(make(chance.choice(KEYS), chance))
     file.flush()
 
 
@@ -50,15 +86,20 @@ def best(words, stream):
     return min(run(words, stream) for _ in range(RUNS))
 
 
-frames = int(sys.argv[1])
-with tempfile.NamedTemporaryFile() as file:
-    write_stream(file, frames)
-    size = os.path.getsize(file.name)
-    cat, _ = best(["cat"], file.name)
-    session, memory = best(["./ep_server", "session"], file.name)
+def measure(name, load, frames):
+    """Times a session on a load and cat on the same stream, and prints both."""
+    with tempfile.NamedTemporaryFile() as file:
+        write_stream(file, frames, load)
+        size = os.path.getsize(file.name)
+        cat, _ = best(["cat"], file.name)
+        session, memory = best(["./ep_server", "session"], file.name)
+    print(f"{name}: {frames:,} frames, {size / 1e6:,.1f} MB, best of {RUNS} runs")
+    print(f"session     {session:8.3f} s  {frames / session:12,.0f} frames a second")
+    print(f"cat         {cat:8.3f} s  {session / cat:12,.1f} times as fast")
+    print(f"peak memory {memory:8.1f} MB, {memory * 1024 * 1024 / frames:,.0f} bytes a frame")
 
-print(f"{frames:,} frames, {size / 1e6:,.1f} MB, best of {RUNS} runs")
-print(f"session     {session:8.3f} s  {frames / session:12,.0f} frames a second")
-print(f"cat         {cat:8.3f} s  {session / cat:12,.1f} times as fast")
-print(f"peak memory {memory:8.1f} MB, {memory * 1024 * 1024 / frames:,.0f} bytes a frame")
+
+frames = int(sys.argv[1])
+measure("Sets and Gets", HALVES, frames)
+measure("calls of many kinds", MIXED, frames)
 END

@@ -128,12 +128,12 @@ session_of : (before now : Outside) (end : End) (history : List EventData) (take
     → IsSession before now end history
 session_of before now end history taken rest pending moment features quit extra takes p few exact asked whole legal not comes =
     let cut : (b : Bool) → is_cut end || quit ≡ b → IsSession before now end history =
-      elim [
-        | true ↦ λ is. let d = some_division rest in
+    elim [
+      | true ↦ λ is. let d = some_division rest in
           session_from before now end history taken rest pending moment features quit extra d.0 d.1 takes p d.2 (λ other none. absurd (or_true_not (is_cut end) quit is other none)) few exact asked whole legal not (comes_anywhere end before now taken rest d.1 quit is comes)
-        | false ↦ λ is. session_from before now end history taken rest pending moment features quit extra [] rest takes p
+      | false ↦ λ is. session_from before now end history taken rest pending moment features quit extra [] rest takes p
           (divides-none rest (rest_over rest (rest_from end before now taken rest quit not (or_false_left (is_cut end) quit is) (or_false_right (is_cut end) quit is) comes))) (λ _ _. refl) few exact asked whole legal not comes
-      ] in
+    ] in
     cut (is_cut end || quit) refl
 
 rose_later : (a b c : ℕ) → b ≤ c → Rose a b → Rose a c

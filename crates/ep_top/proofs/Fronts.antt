@@ -48,11 +48,11 @@ pub sound_after_call : (old new : Front) (sorted : Conn) (frame : FrameData) (ca
     → sorted.out.spare + length sorted.out.bytes ≡ old.conn.out.spare + length old.conn.out.bytes → sorted.value ≡ old.conn.value
     → Calls frame call now old.plain new.plain old.history new.history sorted new.conn → IsSound new
 sound_after_call old new sorted frame call now s room value c = record {
-    world = c.world ∙ world_after_call old.plain old.history 0 now call c.reply c.value s.world ∙ ap (λ (h : List EventData). after start h) (sym c.noted);
-    legal = subst (λ (h : List EventData). IsLegal start h) (sym c.noted) (legal_after_call old.plain old.history 0 now call c.reply c.value s.world s.opened c.replied c.shown s.legal);
-    opened = ap (λ (w : World). w.opened) c.world ∙ opened-apply old.plain (answer old.plain call now).effect ∙ s.opened;
-    answers = c.out_room ∙ room ∙ s.answers;
-    value = c.value_room ∙ ap (λ (o : OutData). o.spare + length o.bytes) value ∙ s.value
+  world = c.world ∙ world_after_call old.plain old.history 0 now call c.reply c.value s.world ∙ ap (λ (h : List EventData). after start h) (sym c.noted);
+  legal = subst (λ (h : List EventData). IsLegal start h) (sym c.noted) (legal_after_call old.plain old.history 0 now call c.reply c.value s.world s.opened c.replied c.shown s.legal);
+  opened = ap (λ (w : World). w.opened) c.world ∙ opened-apply old.plain (answer old.plain call now).effect ∙ s.opened;
+  answers = c.out_room ∙ room ∙ s.answers;
+  value = c.value_room ∙ ap (λ (o : OutData). o.spare + length o.bytes) value ∙ s.value;
 }
 
 -- a call was answered
@@ -61,16 +61,20 @@ pub answered_call : (f : FrameData) (m next : ℕ → Option ℕ) (old new : Fro
     → sorted.out.bytes ≡ old.conn.out.bytes ++ own_text VBUCKETS f → sorted.features ≡ features_after old.conn.features f
     → Calls f call now old.plain new.plain old.history new.history sorted new.conn → Answered f m next false old new
 answered_call f m next old new sorted call now told asked act text features c = record {
-    now = now; reply = c.reply; value = c.value; told = told; asked = asked;
-    noted = c.noted ∙ ap (λ (a : ActData). old.history ++ act_event a now c.reply c.value) act;
-    text =
+  now = now;
+  reply = c.reply;
+  value = c.value;
+  told = told;
+  asked = asked;
+  noted = c.noted ∙ ap (λ (a : ActData). old.history ++ act_event a now c.reply c.value) act;
+  text =
       c.text ∙ ap (λ l. l ++ reply_text f c.reply c.value sorted.features.seqno) text
       ∙ append_assoc old.conn.out.bytes (own_text VBUCKETS f) (reply_text f c.reply c.value sorted.features.seqno)
       ∙ ap (λ l. old.conn.out.bytes ++ (own_text VBUCKETS f ++ l))
-        (ap (λ (fs : Features). reply_text f c.reply c.value fs.seqno) (features ∙ engine_features VBUCKETS f old.conn.features call act)
-        ∙ ap (λ (a : ActData). act_text old.conn.features f a c.reply c.value) act);
-    features = c.features ∙ features;
-    quits = ap (λ (a : ActData). is_quit a) (sym act)
+      (ap (λ (fs : Features). reply_text f c.reply c.value fs.seqno) (features ∙ engine_features VBUCKETS f old.conn.features call act)
+      ∙ ap (λ (a : ActData). act_text old.conn.features f a c.reply c.value) act);
+  features = c.features ∙ features;
+  quits = ap (λ (a : ActData). is_quit a) (sym act);
 }
 
 no_reply : Reply
@@ -83,11 +87,15 @@ pub answered_frame : (f : FrameData) (m next : ℕ → Option ℕ) (old new : Fr
     → sorted.out.bytes ≡ old.conn.out.bytes ++ own_text VBUCKETS f → sorted.features ≡ features_after old.conn.features f
     → new.history ≡ old.history → new.conn.out.bytes ≡ sorted.out.bytes ++ text → new.conn.features ≡ sorted.features → Answered f m next quit old new
 answered_frame f m next old new sorted act text quit now told asked is event shown quits own features history bytes kept = record {
-    now = now; reply = no_reply; value = []; told = told; asked = asked;
-    noted = history ∙ sym (append-nil old.history) ∙ ap (λ l. old.history ++ l) (sym (event no_reply)) ∙ ap (λ (a : ActData). old.history ++ act_event a now no_reply []) is;
-    text =
+  now = now;
+  reply = no_reply;
+  value = [];
+  told = told;
+  asked = asked;
+  noted = history ∙ sym (append-nil old.history) ∙ ap (λ l. old.history ++ l) (sym (event no_reply)) ∙ ap (λ (a : ActData). old.history ++ act_event a now no_reply []) is;
+  text =
       bytes ∙ ap (λ l. l ++ text) own ∙ append_assoc old.conn.out.bytes (own_text VBUCKETS f) text
       ∙ ap (λ l. old.conn.out.bytes ++ (own_text VBUCKETS f ++ l)) (sym (shown no_reply) ∙ ap (λ (a : ActData). act_text old.conn.features f a no_reply []) is);
-    features = kept ∙ features;
-    quits = ap (λ (a : ActData). is_quit a) (sym is) ∙ quits
+  features = kept ∙ features;
+  quits = ap (λ (a : ActData). is_quit a) (sym is) ∙ quits;
 }

@@ -50,7 +50,10 @@ serves_fed before taken piece b p = record {
   rest = ap (λ l. l ++ piece) p.rest ∙ append_assoc (concat (bytes_of p.served)) b.rest piece;
   each = p.each;
   noted = p.noted;
-  texts = p.texts; features = p.features; quits = p.quits; wrote = p.wrote;
+  texts = p.texts;
+  features = p.features;
+  quits = p.quits;
+  wrote = p.wrote;
   moments = p.moments;
   asked = p.asked;
 }
@@ -131,7 +134,7 @@ stops_here end before mid now count rest front p takes held moment served none c
   moment = mid.moment;
   takes = takes;
   serves = subst (λ (h : Option (List ℕ)). Serves (begin before p.taken) (stand rest front h mid.moment (is_quit_end end))) (sym held)
-    (subst (λ (q : Bool). Serves (begin before p.taken) (stand rest front mid.held mid.moment q)) (sym none) p.serves);
+      (subst (λ (q : Bool). Serves (begin before p.taken) (stand rest front mid.held mid.moment q)) (sym none) p.serves);
   kept = λ _. refl;
   extra = 0;
   few = omega arith;
@@ -214,8 +217,8 @@ progress_none before rest front none fresh sound = record {
     each = tt;
     noted = fresh.history;
     texts = fresh.answers;
-      features = ap (λ (b : Bool). let f : Features = record { seqno = b } in f) fresh.features;
-      quits = refl;
+    features = ap (λ (b : Bool). let f : Features = record { seqno = b } in f) fresh.features;
+    quits = refl;
     wrote = appends_nothing before.held;
     moments = tt;
     asked = λ k. ap before.moment (sym (zero-add k));

@@ -87,21 +87,21 @@ serves_then a b c p q = record {
   served = p.served ++ q.served;
   written = p.written ++ q.written;
   rest =
-    p.rest ∙ ap (λ l. concat (bytes_of p.served) ++ l) q.rest ∙ sym (append_assoc (concat (bytes_of p.served)) (concat (bytes_of q.served)) c.rest)
-    ∙ ap (λ l. l ++ c.rest) (sym (bytes_of-append p.served q.served));
+      p.rest ∙ ap (λ l. concat (bytes_of p.served) ++ l) q.rest ∙ sym (append_assoc (concat (bytes_of p.served)) (concat (bytes_of q.served)) c.rest)
+      ∙ ap (λ l. l ++ c.rest) (sym (bytes_of-append p.served q.served));
   each = subst (λ (l : List (List ℕ)). AllByRecursion IsFrame l) (sym (map-append (λ (x : Exchange). x.bytes) p.served q.served)) (all-append IsFrame (bytes_of p.served) (bytes_of q.served) p.each q.each);
   noted =
-    q.noted ∙ ap (λ l. l ++ flat_map event_of q.served) p.noted ∙ append_assoc a.history (flat_map event_of p.served) (flat_map event_of q.served)
-    ∙ ap (λ l. a.history ++ l) (sym (flat_map-append event_of p.served q.served));
+      q.noted ∙ ap (λ l. l ++ flat_map event_of q.served) p.noted ∙ append_assoc a.history (flat_map event_of p.served) (flat_map event_of q.served)
+      ∙ ap (λ l. a.history ++ l) (sym (flat_map-append event_of p.served q.served));
   texts =
-    append_assoc p.written q.written c.pending ∙ ap (λ l. p.written ++ l) q.texts ∙ sym (append_assoc p.written b.pending (texts_of b.features q.served))
-    ∙ ap (λ l. l ++ texts_of b.features q.served) p.texts ∙ append_assoc a.pending (texts_of a.features p.served) (texts_of b.features q.served)
-    ∙ ap (λ l. a.pending ++ l) (ap (λ (f : Features). texts_of a.features p.served ++ texts_of f q.served) p.features ∙ sym (texts_of-append a.features p.served q.served));
+      append_assoc p.written q.written c.pending ∙ ap (λ l. p.written ++ l) q.texts ∙ sym (append_assoc p.written b.pending (texts_of b.features q.served))
+      ∙ ap (λ l. l ++ texts_of b.features q.served) p.texts ∙ append_assoc a.pending (texts_of a.features p.served) (texts_of b.features q.served)
+      ∙ ap (λ l. a.pending ++ l) (ap (λ (f : Features). texts_of a.features p.served ++ texts_of f q.served) p.features ∙ sym (texts_of-append a.features p.served q.served));
   features = q.features ∙ ap (λ (f : Features). features_of f q.served) p.features ∙ sym (features_of-append a.features p.served q.served);
   quits = quits-append a.quit b.quit c.quit p.served q.served p.quits q.quits;
   wrote = appends_then a.held b.held c.held p.written q.written p.wrote q.wrote;
   moments = moments-append a.moment 0 p.served q.served p.moments
-    (let e : length p.served + 0 ≡ 0 + length p.served = omega arith in subst (λ k. AreMoments a.moment k q.served) e (moments-shift a.moment b.moment (length p.served) 0 q.served p.asked q.moments));
+      (let e : length p.served + 0 ≡ 0 + length p.served = omega arith in subst (λ k. AreMoments a.moment k q.served) e (moments-shift a.moment b.moment (length p.served) 0 q.served p.asked q.moments));
   asked = λ k. q.asked k ∙ p.asked (length q.served + k) ∙ ap a.moment (omega (arith, length-append p.served q.served));
 }
 
@@ -203,13 +203,13 @@ pub breaks_bad_magic : (held later : FeederData) (old new : Stand) (place : ℕ)
     → Breaks (ends.BadMagic place) old new later.at rose
 breaks_bad_magic held later old new place rose p none rest same bad at =
     breaks_here (ends.BadMagic place) old new later.at rose (subst (λ (q : Bool). Serves old (record new { quit = q })) none p)
-      (subst (λ (l : List ℕ). HasBadMagic l) (sym (rest ∙ ap (λ (x : FeederData). x.rest) same)) bad, refl, at ∙ sym (ap (λ (x : FeederData). x.at) same))
+    (subst (λ (l : List ℕ). HasBadMagic l) (sym (rest ∙ ap (λ (x : FeederData). x.rest) same)) bad, refl, at ∙ sym (ap (λ (x : FeederData). x.at) same))
 
 pub breaks_too_long : (held later : FeederData) (old new : Stand) (place : ℕ) (rose : Type 0) → Serves old new → new.quit ≡ false → new.rest ≡ later.rest → later ≡ held → IsTooLong held.rest → place ≡ held.at
     → Breaks (ends.TooLong place) old new later.at rose
 breaks_too_long held later old new place rose p none rest same bad at =
     breaks_here (ends.TooLong place) old new later.at rose (subst (λ (q : Bool). Serves old (record new { quit = q })) none p)
-      (subst (λ (l : List ℕ). IsTooLong l) (sym (rest ∙ ap (λ (x : FeederData). x.rest) same)) bad, refl, at ∙ sym (ap (λ (x : FeederData). x.at) same))
+    (subst (λ (l : List ℕ). IsTooLong l) (sym (rest ∙ ap (λ (x : FeederData). x.rest) same)) bad, refl, at ∙ sym (ap (λ (x : FeederData). x.at) same))
 
 still_stopped : (end : End) (rest kept : List ℕ) (at : ℕ) (rose later : Type 0) → (rose → later) → HasStopped end rest kept at rose → HasStopped end rest kept at later
 still_stopped ends.BadWords rest kept at rose later f h = h
@@ -264,7 +264,7 @@ pub serves_first : (held later : FeederData) (n : Next) (frame : Frame) (old new
     → Answered (frame_data frame) m next quit old new → quit ≡ wanted → Serves (stand held.rest old sink m false) (stand later.rest new sink next wanted)
 serves_first held later n frame old new sink m next quit wanted f same is e a q =
     serves_answer (first_frame held.rest) held.rest later.rest held.at old new sink m next wanted f (split_first held later n frame is e)
-      (subst (λ (x : FrameData). Answered x m next wanted old new) same (subst (λ (b : Bool). Answered (frame_data frame) m next b old new) q a))
+    (subst (λ (x : FrameData). Answered x m next wanted old new) same (subst (λ (b : Bool). Answered (frame_data frame) m next b old new) q a))
 
 -- A feeder that hands out no frame holds what it held, and nothing was served but that some answers were written.
 pub serves_none : (held later : FeederData) (n : Next) (old new : Front) (sink now : Option (List ℕ)) (m : ℕ → Option ℕ)

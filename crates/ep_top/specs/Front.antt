@@ -14,7 +14,7 @@ use Rattle.ep_top.specs.Exchange.{act_in, is_quit, event_in, text_in}
 
 -- the world that a session starts from
 abbrev pub start : World
-start = empty_world 16777216
+start = empty_world 0 16777216
 
 -- the plain map is in the world that the history leaves, which is legal, and no room was lost
 pub record IsSound (f : Front) : Type 0 where

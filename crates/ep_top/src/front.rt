@@ -10,15 +10,13 @@ ghost use Rattle.conn_core.specs.declared.conn.TheConstants.{VALUE_ROOM};
 ghost use Rattle.ep_top.specs.Calls.{Calls};
 ghost use Rattle.ep_top.specs.Stand.{Writes};
 
-use std::alloc::Global;
-
+use crate::history::History;
 use conn_core::{Act, Conn, VALUE_ROOM};
 use ep_edge::{Clock, Put, Sink};
 use ep_model::{Call, NoMemory, Out, Plain, status};
 use mcbp_frame::{Frame, HEADER, put_response};
 use mcbp_ops::reply_text;
-
-use crate::history::History;
+use std::alloc::Global;
 
 /// How many vBuckets there are.
 pub const VBUCKETS: u16 = 1;
@@ -44,7 +42,7 @@ impl Front {
         let mut history = History::new(alloc);
         history.note_opened()?;
         Ok(Front {
-            plain: Plain::new(alloc),
+            plain: Plain::new(alloc, 0),
             history,
             conn: Conn::new(alloc)?,
         })
@@ -68,7 +66,14 @@ impl Front {
                 Ok(false)
             }
             Act::Engine(call) => {
-                answer_call(&mut self.plain, &mut self.history, &mut self.conn, frame, &call, now)?;
+                answer_call(
+                    &mut self.plain,
+                    &mut self.history,
+                    &mut self.conn,
+                    frame,
+                    &call,
+                    now,
+                )?;
                 Ok(false)
             }
         }

@@ -22,14 +22,14 @@ reply_text-requires-clause-body_fits c =
 
 pub returns-clause-called : goal.returns-clause-called
 returns-clause-called c = record {
-    reply = c.in_ok-reply.reply;
-    value = c.bytes-value.result.now;
-    replied = c.in_ok-reply.ensures.reply;
-    shown = c.bytes-value.ensures ∙ c.in_ok-reply.ensures.value ∙ ap (λ (l : List ℕ). l ++ (answer c.args.plain.now (call_data c.args.call.now) c.args.now).value) c.cut.ensures.bytes;
-    world = c.in_ok-reply.ensures.world;
-    noted = c.in_ok-note_called.ensures.ok;
-    text = c.reply_text.ensures.bytes;
-    features = refl;
-    out_room = c.reply_text.ensures.room;
-    value_room = c.in_ok-reply.ensures.room ∙ emptied _ _ _ c.cut.ensures.bytes c.cut.ensures.spare
+  reply = c.in_ok-reply.reply;
+  value = c.bytes-value.result.now;
+  replied = c.in_ok-reply.ensures.reply;
+  shown = c.bytes-value.ensures ∙ c.in_ok-reply.ensures.value ∙ ap (λ (l : List ℕ). l ++ (answer c.args.plain.now (call_data c.args.call.now) c.args.now).value) c.cut.ensures.bytes;
+  world = c.in_ok-reply.ensures.world;
+  noted = c.in_ok-note_called.ensures.ok;
+  text = c.reply_text.ensures.bytes;
+  features = refl;
+  out_room = c.reply_text.ensures.room;
+  value_room = c.in_ok-reply.ensures.room ∙ emptied _ _ _ c.cut.ensures.bytes c.cut.ensures.spare;
 }
