@@ -108,6 +108,16 @@ impl Feeder {
         next
     }
 
+    /// Drops what wasn't handed out, in constant time. What is fed next begins a new stream, after a fault too.
+    pub fn clear(&mut self)
+        ensures rest { self.new.rest ≡ [] }
+        ensures at { self.new.at ≡ 0 }
+    {
+        self.start = 0;
+        self.end = 0;
+        self.at = 0;
+    }
+
     /// How many bytes were fed and not handed out.
     pub fn rest(&self) -> usize
         ensures { result ≡ length self.now.rest }

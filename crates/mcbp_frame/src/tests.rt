@@ -80,6 +80,21 @@ fn another_first_byte_is_refused_each_time(rt: HostRuntime) -> Result<(), Fail> 
 }
 
 #[test]
+fn a_cleared_feeder_begins_a_new_stream(rt: HostRuntime) -> Result<(), Fail> {
+    let mut feeder = Feeder::new(rt.alloc())?;
+    assert_eq!(rt; frames_after(&rt, &mut feeder, &STREAM[..40], 0), 1);
+    feeder.clear();
+    assert_eq!(rt; feeder.rest(), 0);
+    assert_eq!(rt; frames_after(&rt, &mut feeder, &STREAM, 0), EXPECTED.len());
+    feeder.clear();
+    assert_eq!(rt; feeder.feed(&[0x16]), 1);
+    assert!(rt; matches!(feeder.next(), Next::BadMagic { at: 0 }));
+    feeder.clear();
+    assert_eq!(rt; frames_after(&rt, &mut feeder, &STREAM, 0), EXPECTED.len());
+    Ok(())
+}
+
+#[test]
 fn a_body_has_a_limit(rt: HostRuntime) -> Result<(), Fail> {
     for (low, is_long) in [(0, false), (1, true)] {
         let mut header = [0; HEADER];
