@@ -1,5 +1,5 @@
 #!/usr/bin/env bash
-# Times sessions of many frames, half Sets and half Gets or of many kinds, beside cat on the same streams:
+# Times a session of Sets and Gets and one of calls of many kinds, beside cat on the same streams:
 # bench/session.sh [FRAMES]. It needs python3.
 set -euo pipefail
 cd "$(dirname "$0")/.."
@@ -43,7 +43,6 @@ def touch(key, chance):
 
 
 # What makes a frame, and how many of a hundred frames it makes.
-HALVES = [(get, 50), (store(0x01), 50)]
 MIXED = [
     (get, 40),
     (store(0x01), 30),
@@ -56,14 +55,18 @@ MIXED = [
 ]
 
 
-def write_stream(file, frames, load):
-    """Writes frames by chance, of keys by chance."""
-    chance = random.Random(1)
-    makers = [make for make, share in load for _ in range(share)]
+def halves(frames, chance):
+    """Half Sets and half Gets, in turn, of keys by chance."""
+    makers = [store(0x01), get]
+    for number in range(frames):
+        yield makers[number % 2](chance.choice(KEYS), chance)
+
+
+def mixed(frames, chance):
+    """Calls of many kinds by chance, of keys by chance."""
+    makers = [make for make, share in MIXED for _ in range(share)]
     for _ in range(frames):
-        make = chance.choice(makers)
-        file.write(make(chance.choice(KEYS), chance))
-    file.flush()
+        yield chance.choice(makers)(chance.choice(KEYS), chance)
 
 
 def run(words, stream):
@@ -89,7 +92,9 @@ def best(words, stream):
 def measure(name, load, frames):
     """Times a session on a load and cat on the same stream, and prints both."""
     with tempfile.NamedTemporaryFile() as file:
-        write_stream(file, frames, load)
+        for bytes_of_frame in load(frames, random.Random(1)):
+            file.write(bytes_of_frame)
+        file.flush()
         size = os.path.getsize(file.name)
         cat, _ = best(["cat"], file.name)
         session, memory = best(["./ep_server", "session"], file.name)
@@ -100,6 +105,6 @@ def measure(name, load, frames):
 
 
 frames = int(sys.argv[1])
-measure("Sets and Gets", HALVES, frames)
-measure("calls of many kinds", MIXED, frames)
+measure("Sets and Gets", halves, frames)
+measure("calls of many kinds", mixed, frames)
 END
