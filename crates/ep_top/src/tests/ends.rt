@@ -12,28 +12,32 @@ fn sessions_end_where_the_stream_says_so(rt: HostRuntime) -> Result<(), Fail> {
     // The header of a Get whose body has 2,097,153 bytes.
     let too_long = "80 00 0000 00 00 0000 00200001 00000000 0000000000000000";
     let sessions = [
-        (["", ""], ["", ""], End::Closed),
-        ([NOOP, NOOP], [NOOP_ANSWER, NOOP_ANSWER], End::Closed),
-        ([noop_but_one_byte, ""], ["", ""], End::Torn { at: 0 }),
+        (("", ""), ("", ""), End::Closed),
+        ((NOOP, NOOP), (NOOP_ANSWER, NOOP_ANSWER), End::Closed),
+        ((noop_but_one_byte, ""), ("", ""), End::Torn { at: 0 }),
         (
-            [NOOP, "800a000000"],
-            [NOOP_ANSWER, ""],
+            (NOOP, "800a000000"),
+            (NOOP_ANSWER, ""),
             End::Torn { at: 24 },
         ),
-        (["16", ""], ["", ""], End::BadMagic { at: 0 }),
-        (["16", NOOP], ["", ""], End::BadMagic { at: 0 }),
-        ([NOOP, "16"], [NOOP_ANSWER, ""], End::BadMagic { at: 24 }),
-        ([too_long, ""], ["", ""], End::TooLong { at: 0 }),
-        ([NOOP, too_long], [NOOP_ANSWER, ""], End::TooLong { at: 24 }),
-        ([quit, NOOP], [quit_answer, ""], End::Quit),
-        ([NOOP, quit], [NOOP_ANSWER, quit_answer], End::Quit),
-        ([quit_quietly, NOOP], ["", ""], End::Quit),
+        (("16", ""), ("", ""), End::BadMagic { at: 0 }),
+        (("16", NOOP), ("", ""), End::BadMagic { at: 0 }),
+        ((NOOP, "16"), (NOOP_ANSWER, ""), End::BadMagic { at: 24 }),
+        ((too_long, ""), ("", ""), End::TooLong { at: 0 }),
+        ((NOOP, too_long), (NOOP_ANSWER, ""), End::TooLong { at: 24 }),
+        ((quit, NOOP), (quit_answer, ""), End::Quit),
+        ((NOOP, quit), (NOOP_ANSWER, quit_answer), End::Quit),
+        ((quit_quietly, NOOP), ("", ""), End::Quit),
     ];
-    for (frames, answers, end) in sessions {
-        let input = bytes_of(alloc, &frames)?;
+    for ((first, second), (answer, other), end) in sessions {
+        let input = bytes_of(alloc, &[first, second])?;
         let outcome = session(alloc, &input, Vec::new(alloc))?;
-        assert_eq!(rt; outcome.end, end, "{frames:?}");
-        assert_eq!(rt; outcome.written, bytes_of(alloc, &answers)?, "{frames:?}");
+        assert_eq!(rt; outcome.end, end, "{first} {second}");
+        assert_eq!(rt;
+            outcome.written,
+            bytes_of(alloc, &[answer, other])?,
+            "{first} {second}"
+        );
     }
     Ok(())
 }
