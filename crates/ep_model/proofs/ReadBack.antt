@@ -67,7 +67,7 @@ pub get-put : (w : World) (key : List ℕ) (doc : Doc) → get (put w key doc).d
 get-put w key doc = get-insert nat_list_cmp_total w.docs key doc key ∙ ap (λ b. cond b (Some doc) (get w.docs key)) ((eq_by_cmp_equiv nat_list_cmp_total).refl key)
 
 -- and every other as before
-get-put_other : (w : World) (key other : List ℕ) (doc : Doc) → other ≢ key → get (put w key doc).docs other ≡ get w.docs other
+pub get-put_other : (w : World) (key other : List ℕ) (doc : Doc) → other ≢ key → get (put w key doc).docs other ≡ get w.docs other
 get-put_other w key other doc differ =
     elim (eq_by_cmp (slice_cmp nat_cmp) other key) as (λ b. eq_by_cmp (slice_cmp nat_cmp) other key ≡ b → get (put w key doc).docs other ≡ get w.docs other) [
       | true ↦ λ is. absurd (differ ((bytes_eq-Decides other key).0 (texts_ties other key ∙ is)))

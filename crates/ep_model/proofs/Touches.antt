@@ -1,6 +1,6 @@
 -- A Get-and-touch that changes the expiry: its answer, and what it leaves.
 use Rattle.std.proofs.Common.{◌≡◌, ◌≢◌, ℕ, ◌+◌, Bool, true, false, cond, List, [], ◌++◌, length, sym, ap, subst, ◌∙◌, arith}
-use Rattle.std.specs.Prelude.{◌==◌, Option, Some, None, Ok}
+use Rattle.std.specs.Prelude.{◌==◌, Some, None, Ok}
 use Rattle.std.specs.FinMap.{get}
 use Rattle.std.proofs.lemmas.Bool.Decides.{nat_tests}
 use Rattle.ep_model.specs.declared.call.Reply.{Reply}

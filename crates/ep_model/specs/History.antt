@@ -1,6 +1,5 @@
--- Histories of one vBucket: lists of events after a start. Which events may stand where, and the world that
--- they leave.
-use Rattle.std.specs.Prelude.{◌≡◌, ℕ, ◌+◌, true, false, List, [], ◌∷◌, ◌++◌}
+-- Histories of one vBucket: lists of events after a start, and the worlds that they leave.
+use Rattle.std.specs.Prelude.{ℕ, true, ◌==◌, if◌then◌else◌, List, [], ◌∷◌}
 use Rattle.ep_model.specs.declared.call.Call.{Call}
 use Rattle.ep_model.specs.declared.call.Call.TheVariants as calls
 use Rattle.ep_model.specs.declared.event.Event.{Event}
@@ -51,24 +50,7 @@ abbrev pub after : World → List EventData → World
 after start [] = start
 after start (event ∷ history) = after (step start event) history
 
--- What may happen after a start and these events. Calls are answered as the world there says, and a vBucket
--- opens once. The other events aren't noted so far, so none of them may stand anywhere.
-abbrev pub May : World → List EventData → EventData → Type 0
-May start history (Called caller call now reply value) =
-    let w = after start history in
-    (w.opened ≡ true) × (reply ≡ (answer w call now).reply) × (value ≡ (answer w call now).value)
-May start history Opened = (after start history).opened ≡ false
-May start history (Refused caller call now cause) = ⊥
-May start history (Expired key now) = ⊥
-May start history (Persisted number) = ⊥
-May start history (Marked stripe number) = ⊥
-May start history (Asked ticket caller call) = ⊥
-May start history (ReadFailed ticket fault) = ⊥
-
--- each of these events may happen after those before it
-abbrev pub AreLegalAfter : World → List EventData → List EventData → Type 0
-AreLegalAfter start before [] = Unit {0}
-AreLegalAfter start before (event ∷ events) = May start before event × AreLegalAfter start (before ++ event ∷ []) events
-
-abbrev pub IsLegal : World → List EventData → Type 0
-IsLegal start history = AreLegalAfter start [] history
+-- the world at the mutation of this number, or the start where none is that far
+abbrev pub upto : World → List EventData → ℕ → World
+upto w [] number = w
+upto w (event ∷ history) number = if w.high == number then w else upto (step w event) history number

@@ -1,5 +1,5 @@
 -- Laws of histories and of answers.
-use Rattle.std.specs.Prelude.{◌≡◌, ◌≢◌, ◌<◌, ◌^◌, ◌⊎◌, ℕ, true, List, [], ◌∷◌, ◌++◌, Some, decimal}
+use Rattle.std.specs.Prelude.{◌≡◌, ◌≢◌, ◌<◌, ◌^◌, ◌⊎◌, ℕ, true, List, [], Option, Some, decimal}
 use Rattle.ep_model.specs.declared.call.VbState.TheVariants.{Active}
 use Rattle.ep_model.specs.declared.call.StoreKind.TheVariants as kinds
 use Rattle.ep_model.specs.declared.data.CallData.TheVariants.{Get, Store}
@@ -8,15 +8,23 @@ use Rattle.ep_model.specs.declared.status.TheConstants.{SUCCESS}
 use Rattle.ep_model.specs.World.{World, live, secs, stored_expiry}
 use Rattle.ep_model.specs.Answer.{Answer, Nothing, answer, apply}
 use Rattle.ep_model.specs.Decimal.{number_of}
-use Rattle.ep_model.specs.History.{May, IsLegal}
+use Rattle.ep_model.specs.declared.config.Config.{Config}
+use Rattle.ep_model.specs.declared.data.FrontData.{FrontData}
+use Rattle.ep_model.specs.declared.data.StartData.{StartData}
+use Rattle.ep_model.specs.Front.{with_event, with_events}
+use Rattle.ep_model.specs.Legal.{May, AreLegal, IsLegal}
 
 -- a legal history stays legal with one more event that may happen
 abbrev pub LegalHistoriesGrow : Type 0
-LegalHistoriesGrow = (start : World) (history : List EventData) (event : EventData) → IsLegal start history → May start history event → IsLegal start (history ++ event ∷ [])
+LegalHistoriesGrow = (f : FrontData) (event : EventData) → IsLegal f → May f event → IsLegal (with_event f event)
 
--- the front of a legal history is legal
+-- the front of a legal history is legal, and what stands behind it may stand there
 abbrev pub FrontsAreLegal : Type 0
-FrontsAreLegal = (start : World) (front rest : List EventData) → IsLegal start (front ++ rest) → IsLegal start front
+FrontsAreLegal = (f : FrontData) (more : List EventData) → IsLegal (with_events f more) → IsLegal f × AreLegal f more
+
+-- nothing is illegal before anything happened
+abbrev pub BareFrontsAreLegal : Type 0
+BareFrontsAreLegal = (config : Config) (id : ℕ) (start : Option StartData) → IsLegal (record { config = config; id = id; start = start; events = [] })
 
 -- what a Get is answered that finds this value
 abbrev pub found : List ℕ → ℕ → ℕ → Answer

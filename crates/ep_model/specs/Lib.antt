@@ -1,7 +1,12 @@
 pub mod Limits
+pub mod Config
+pub mod Stripes
 pub mod World
 pub mod Answer
 pub mod History
+pub mod Needs
+pub mod Front
+pub mod Legal
 pub mod Decimal
 pub mod Refusals
 pub mod Codes

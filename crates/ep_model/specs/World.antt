@@ -5,16 +5,12 @@ use Rattle.std.specs.Cmp.Lexicographic.{slice_cmp}
 use Rattle.std.specs.FinMap as map
 use Rattle.std.specs.FinMap.{FinMap}
 use Rattle.ep_model.specs.declared.call.VbState.{VbState}
+use Rattle.ep_model.specs.declared.data.DocData.{DocData}
 use Rattle.ep_model.specs.declared.call.VbState.TheVariants.{Active}
 
 -- a document, or where it was deleted what is left of it
-pub record Doc : Type 0 where
-  pub value : List ℕ
-  pub flags : ℕ
-  pub expiry : ℕ
-  pub cas : ℕ
-  pub seqno : ℕ
-  pub deleted : Bool
+abbrev pub Doc : Type 0
+Doc = DocData
 
 abbrev pub Docs : Type 0
 Docs = FinMap (slice_cmp nat_cmp) Doc

@@ -1,6 +1,6 @@
 // What clauses see of a call, of an event and of a buffer: plain data, in which bytes are lists and nothing
 // has an address. No value of these types is made.
-use crate::{Cause, Reply, StoreKind, Ticket, VbState};
+use crate::{Cause, Config, Reply, StoreKind, Ticket, VbState};
 use std::collections::LinkedList;
 
 /// A `Call` as clauses see it.
@@ -91,4 +91,32 @@ pub enum EventData {
 pub struct OutData {
     pub bytes: LinkedList<u8>,
     pub spare: u64,
+}
+
+/// A document as clauses see it, or where it was deleted what is left of it.
+pub struct DocData {
+    pub value: LinkedList<u8>,
+    pub flags: u32,
+    pub expiry: u32,
+    pub cas: u64,
+    pub seqno: u64,
+    pub deleted: bool,
+}
+
+/// What a vBucket's history begins with: its documents under their keys, its greatest numbers, and its
+/// failover table, pairs of a uuid and a sequence number, newest first. All of it is stored.
+pub struct StartData {
+    pub docs: LinkedList<(LinkedList<u8>, DocData)>,
+    pub high: u64,
+    pub maxcas: u64,
+    pub failovers: LinkedList<(u64, u64)>,
+}
+
+/// What is known of the history of the vBucket `id` of a bucket: a front of it, with its start once that is
+/// put.
+pub struct FrontData {
+    pub config: Config,
+    pub id: u16,
+    pub start: Option<StartData>,
+    pub events: LinkedList<EventData>,
 }

@@ -15,14 +15,16 @@ mod out;
 mod plain;
 pub mod rules;
 pub mod status;
+mod stripes;
 
 pub use call::{Call, Meta, Reply, StoreKind, VbState};
-pub use config::{Config, Eviction, Field};
-pub use data::{CallData, EventData, OutData};
+pub use config::{Config, Eviction, Field, OpenFault};
+pub use data::{CallData, DocData, EventData, FrontData, OutData, StartData};
 pub use event::{Busy, Cause, Event, PartName, Phase, Ticket};
 pub use memory::NoMemory;
 pub use out::Out;
 pub use plain::Plain;
+pub use stripes::stripe_of;
 
 #[cfg(test)]
 mod tests;

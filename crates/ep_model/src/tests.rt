@@ -3,6 +3,8 @@ ghost use Rattle.std.specs.Prelude.{◌<◌, ◌^◌};
 ghost use Rattle.ep_model.specs.History.{call_data};
 ghost use Rattle.ep_model.specs.Limits.{IsKey, IsValue, IsWithin};
 
+mod layout;
+
 use crate::limits::MAX_VALUE;
 use crate::{Call, NoMemory, Out, Plain, Reply, StoreKind, VbState};
 use std::alloc::Global;
