@@ -1,0 +1,10 @@
+pub mod Effects
+pub mod Callers
+pub mod Views
+pub mod Answers
+pub mod Later
+pub mod Legality
+pub mod Begun
+pub mod Mutations
+pub mod Stored
+pub mod Bounds

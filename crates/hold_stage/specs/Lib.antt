@@ -1,0 +1,4 @@
+pub mod Touches
+pub mod Grows
+pub mod Laws
+pub mod Mutations
