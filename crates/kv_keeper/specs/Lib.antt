@@ -1,0 +1,6 @@
+pub mod Batch
+pub mod Content
+pub mod Kept
+pub mod Rows
+pub mod Memory
+pub mod Desk
