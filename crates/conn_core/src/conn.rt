@@ -105,8 +105,8 @@ impl Conn {
     }
 }
 
-// Appends a response that is a status alone.
-fn put_status(out: &mut Out, frame: &Frame, status: u16)
+/// Appends the response to a frame that is a status alone, in constant time.
+pub fn put_status(out: &mut Out, frame: &Frame, status: u16)
     requires { HEADER ≤ out.old.spare }
     ensures bytes { out.new.bytes ≡ out.old.bytes ++ status_text (frame_data frame.now) status }
     ensures room { out.new.spare + length out.new.bytes ≡ out.old.spare + length out.old.bytes }

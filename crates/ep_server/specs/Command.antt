@@ -9,5 +9,5 @@ use Rattle.ep_top.specs.Session.{IsSession, IsSessionCommand}
 -- the command of these words ended so: as a session, unless the words ask for none
 pub record EndsCommand (words : List (List ℕ)) (before now : Outside) (end : End) : Type 0 where
   pub bad_words : (end ≡ ends.BadWords) ↔ (IsSessionCommand words → ⊥)
-  pub history : List EventData
+  pub history : List (ℕ × EventData)
   pub session : IsSession before now end history

@@ -1,24 +1,25 @@
 -- From how a session stopped to what it did, once its last answers were written.
-use Rattle.std.proofs.Common.{◌≡◌, ◌≢◌, ◌⊎◌, ℕ, ◌+◌, ◌≤◌, Bool, true, false, ◌||◌, List, [], ◌∷◌, ◌++◌, length, refl, sym, ap, subst, ◌∙◌, inl, inr, Option, None, Some, arith, append_assoc, append-nil}
+use Rattle.std.proofs.Common.{◌≡◌, ◌≢◌, ℕ, ◌+◌, ◌≤◌, Bool, true, false, ◌||◌, List, [], ◌∷◌, ◌++◌, refl, sym, ap, subst, ◌∙◌, inl, inr, Option, arith, append_assoc}
 use Rattle.std.specs.List.{AllByRecursion, concat, flat_map}
-use Rattle.ep_edge.specs.Edge.{Takes, Rose, Appends, IsEmptied}
+use Rattle.ep_edge.specs.Edge.{Takes, Rose, IsEmptied}
 use Rattle.ep_model.specs.declared.data.EventData.{EventData}
 use Rattle.ep_model.specs.declared.data.EventData.TheVariants.{Opened}
-use Rattle.ep_model.specs.History.{IsLegal}
+use Rattle.ep_model.proofs.HistoryLemmas.{legal-bare}
+use Rattle.vb_world.specs.History.{events_of}
 use Rattle.mcbp_frame.specs.Frames.{IsFrame}
 use Rattle.mcbp_frame.specs.Division.{Divides, IsPartial}
 use Rattle.mcbp_frame.specs.Laws.{IsRest}
-use Rattle.mcbp_frame.proofs.DivisionLemmas.{divides-cons, divides-none, rest_over, one_division, some_division, partial_over}
+use Rattle.mcbp_frame.proofs.DivisionLemmas.{divides-cons, divides-none, rest_over, some_division, partial_over}
 use Rattle.ep_top.specs.declared.end.End.{End}
 use Rattle.ep_top.specs.declared.end.End.TheVariants as ends
 use Rattle.ep_top.specs.declared.front.Front.{Front}
 use Rattle.conn_core.specs.declared.hello.Features.{Features}
 use Rattle.ep_top.specs.Exchange.{Exchange, event_of}
-use Rattle.ep_top.specs.Front.{start}
+use Rattle.ep_top.specs.Front.{session_config, IsLegalHistory}
 use Rattle.ep_top.specs.Outside.{Outside}
 use Rattle.ep_top.specs.Stand.{Stand, bytes_of, Serves, Writes, is_quit_end}
-use Rattle.ep_top.specs.Session.{HasEnded, MayGoOn, is_cut, Comes, IsNoted, IsSession, begin, Stops, Written, Lost, Broken, Finishes}
-use Rattle.ep_top.proofs.Stands.{serves_then, serves_writes, serves_nothing, appends_nothing, rose_from}
+use Rattle.ep_top.specs.Session.{HasEnded, is_cut, Comes, IsNoted, IsSession, begin, Stops, Written, Lost, Broken, Finishes}
+use Rattle.ep_top.proofs.Stands.{serves_then, serves_writes, appends_nothing, rose_from}
 use Rattle.ep_top.proofs.Sessions.{takes_nothing}
 
 -- frames before a text that is divided
@@ -41,12 +42,12 @@ noted_from ends.Quit history served not e = e
 noted_from ends.Closed history served not e = e
 
 -- all of it, from what was served and written in the end, and from the division of what wasn't served
-session_from : (before now : Outside) (end : End) (history : List EventData) (taken rest pending : List ℕ) (moment : ℕ → Option ℕ) (features : Features) (quit : Bool) (extra : ℕ) (unserved : List (List ℕ)) (left : List ℕ)
+session_from : (before now : Outside) (end : End) (history : List (ℕ × EventData)) (taken rest pending : List ℕ) (moment : ℕ → Option ℕ) (features : Features) (quit : Bool) (extra : ℕ) (unserved : List (List ℕ)) (left : List ℕ)
     → Takes before.left now.left taken
-    → Serves (begin before taken) (record { rest = rest; history = history; pending = pending; held = now.held; moment = moment; features = features; quit = quit })
+    → Serves (begin before taken) (record { rest = rest; history = events_of 0 history; pending = pending; held = now.held; moment = moment; features = features; quit = quit })
     → Divides rest unserved left → (is_cut end ≡ false → quit ≡ false → unserved ≡ [])
     → extra ≤ 1 → (is_cut end ≡ false → extra ≡ 0) → ((k : ℕ) → now.moment k ≡ moment (extra + k)) → (end ≢ ends.WriteFault → pending ≡ [])
-    → IsLegal start history → end ≢ ends.BadWords → Comes before now taken left quit end
+    → IsLegalHistory history → end ≢ ends.BadWords → Comes before now taken left quit end
     → IsSession before now end history
 session_from before now end history taken rest pending moment features quit extra unserved left takes p d all few exact asked whole legal not comes = record {
   taken = taken;
@@ -67,8 +68,10 @@ session_from before now end history taken rest pending moment features quit extr
   few = few;
   exact = exact;
   asked = λ k. asked k ∙ p.asked (extra + k);
-  noted = noted_from end history p.served not p.noted;
-  legal = legal;
+  events = events_of 0 history;
+  only = legal.only;
+  noted = noted_from end (events_of 0 history) p.served not p.noted;
+  legal = legal.legal;
   wrote = p.wrote;
   texts = p.texts;
   whole = whole;
@@ -120,11 +123,11 @@ or_true_not true b e p q = cc
 or_true_not false b e p q = cc
 
 -- the same session, whichever way it ended: what wasn't served is divided too
-session_of : (before now : Outside) (end : End) (history : List EventData) (taken rest pending : List ℕ) (moment : ℕ → Option ℕ) (features : Features) (quit : Bool) (extra : ℕ)
+session_of : (before now : Outside) (end : End) (history : List (ℕ × EventData)) (taken rest pending : List ℕ) (moment : ℕ → Option ℕ) (features : Features) (quit : Bool) (extra : ℕ)
     → Takes before.left now.left taken
-    → Serves (begin before taken) (record { rest = rest; history = history; pending = pending; held = now.held; moment = moment; features = features; quit = quit })
+    → Serves (begin before taken) (record { rest = rest; history = events_of 0 history; pending = pending; held = now.held; moment = moment; features = features; quit = quit })
     → extra ≤ 1 → (is_cut end ≡ false → extra ≡ 0) → ((k : ℕ) → now.moment k ≡ moment (extra + k)) → (end ≢ ends.WriteFault → pending ≡ [])
-    → IsLegal start history → end ≢ ends.BadWords → Comes before now taken rest quit end
+    → IsLegalHistory history → end ≢ ends.BadWords → Comes before now taken rest quit end
     → IsSession before now end history
 session_of before now end history taken rest pending moment features quit extra takes p few exact asked whole legal not comes =
     let cut : (b : Bool) → is_cut end || quit ≡ b → IsSession before now end history =
@@ -165,7 +168,7 @@ session_written : (before mid now : Outside) (end final : End) (front : Front) (
     → now.left ≡ mid.left → now.has_ended ≡ mid.has_ended → now.read_faults ≡ mid.read_faults → mid.write_faults ≤ now.write_faults → ((k : ℕ) → now.moment k ≡ mid.moment k)
     → IsSession before now final front.history
 session_written before mid now end final front s w left ended read write moment =
-    let here : Stand = record { rest = s.rest; history = front.history; pending = s.pending; held = mid.held; moment = s.moment; features = front.conn.features; quit = is_quit_end end } in
+    let here : Stand = record { rest = s.rest; history = events_of 0 front.history; pending = s.pending; held = mid.held; moment = s.moment; features = front.conn.features; quit = is_quit_end end } in
     let pending = subst (λ (l : List ℕ). Writes l [] mid.held now.held) (sym (s.kept w.able)) w.writes in
     subst (λ (e : End). IsSession before now e front.history) (sym w.same)
     (session_of before now end front.history s.taken s.rest [] s.moment front.conn.features (is_quit_end end) s.extra
@@ -179,7 +182,7 @@ session_lost : (before mid now : Outside) (end final : End) (front : Front) (s :
     → now.left ≡ mid.left → before.write_faults ≤ mid.write_faults → ((k : ℕ) → now.moment k ≡ mid.moment k)
     → IsSession before now final front.history
 session_lost before mid now end final front s w left older moment =
-    let here : Stand = record { rest = s.rest; history = front.history; pending = s.pending; held = mid.held; moment = s.moment; features = front.conn.features; quit = is_quit_end end } in
+    let here : Stand = record { rest = s.rest; history = events_of 0 front.history; pending = s.pending; held = mid.held; moment = s.moment; features = front.conn.features; quit = is_quit_end end } in
     let pending = subst (λ (l : List ℕ). Writes l w.lost mid.held now.held) (sym (s.kept w.able)) w.writes in
     subst (λ (e : End). IsSession before now e front.history) (sym w.fault)
     (session_of before now ends.WriteFault front.history s.taken s.rest w.lost s.moment front.conn.features (is_quit_end end) s.extra
@@ -196,7 +199,7 @@ session_broken before mid now end final front s w left ended read write moment =
     subst (λ (e : End). IsSession before now e front.history) (w.before ∙ sym w.fault)
     (session_of before now end front.history s.taken s.rest s.pending s.moment front.conn.features (is_quit_end end) s.extra
     (subst (λ (o : Option (List ℕ)). Takes before.left o s.taken) (sym left) s.takes)
-    (subst (λ (h : Option (List ℕ)). Serves (begin before s.taken) (record { rest = s.rest; history = front.history; pending = s.pending; held = h; moment = s.moment; features = front.conn.features; quit = is_quit_end end })) (sym w.same) s.serves)
+    (subst (λ (h : Option (List ℕ)). Serves (begin before s.taken) (record { rest = s.rest; history = events_of 0 front.history; pending = s.pending; held = h; moment = s.moment; features = front.conn.features; quit = is_quit_end end })) (sym w.same) s.serves)
     s.few (exact_from end s.extra s.exact) (λ k. moment k ∙ s.asked k) (λ not. absurd (not w.before)) s.legal s.served
     (comes_later end before mid now s.taken s.rest (is_quit_end end) left ended read write s.comes))
 
@@ -234,13 +237,15 @@ session_none before end noted comes = record {
   few = omega arith;
   exact = λ _. refl;
   asked = λ k. ap before.moment (omega arith);
+  events = [];
+  only = refl;
   noted = noted;
-  legal = tt;
+  legal = legal-bare session_config 0 _;
   wrote = appends_nothing before.held;
   texts = refl;
   whole = λ _. refl;
   comes = comes;
 }
 
-pub session_unopened : (before : Outside) (end : End) (history : List EventData) → history ≡ [] → IsNoted end [] [] → Comes before before [] [] false end → IsSession before before end history
-session_unopened before end history none noted comes = subst (λ (h : List EventData). IsSession before before end h) (sym none) (session_none before end noted comes)
+pub session_unopened : (before : Outside) (end : End) (history : List (ℕ × EventData)) → history ≡ [] → IsNoted end [] [] → Comes before before [] [] false end → IsSession before before end history
+session_unopened before end history none noted comes = subst (λ (h : List (ℕ × EventData)). IsSession before before end h) (sym none) (session_none before end noted comes)

@@ -1,41 +1,66 @@
 -- A front goes on by one event, and by one answer.
-use Rattle.std.proofs.Common.{◌≡◌, ℕ, ◌+◌, Bool, true, false, List, [], ◌∷◌, ◌++◌, length, refl, sym, ap, ◌∙◌, subst, Option, IfSome, append_assoc}
+use Rattle.std.proofs.Common.{◌≡◌, ℕ, ◌+◌, Bool, true, false, List, [], ◌∷◌, ◌++◌, length, refl, sym, ap, ◌∙◌, subst, Option, IfSome, append_assoc, add-zero}
 use Rattle.std.proofs.lemmas.List.{append-nil}
+use Rattle.std.specs.Prelude.{Some, Result, Ok, Err, OnErr}
 use Rattle.ep_model.specs.declared.call.Reply.{Reply}
 use Rattle.ep_model.specs.declared.data.CallData.{CallData}
 use Rattle.ep_model.specs.declared.data.EventData.{EventData}
 use Rattle.ep_model.specs.declared.data.OutData.{OutData}
-use Rattle.ep_model.specs.declared.data.EventData.TheVariants.{Called}
-use Rattle.ep_model.specs.declared.status.TheConstants.{KEY_NOT_FOUND}
+use Rattle.ep_model.specs.declared.data.EventData.TheVariants.{Called, Opened}
 use Rattle.ep_model.specs.World.{World}
 use Rattle.ep_model.specs.Answer.{answer, apply, Effect, Nothing, Puts, Sets}
-use Rattle.ep_model.specs.History.{after, May, IsLegal}
-use Rattle.ep_model.proofs.HistoryLemmas.{after-append, legal-push}
+use Rattle.ep_model.specs.Front.{empty_start, begun, world_of}
+use Rattle.ep_model.specs.Legal.{May, IsLegal}
+use Rattle.ep_model.proofs.HistoryLemmas.{after-append, legal-push, legal-bare}
+use Rattle.vb_world.specs.History.{events_of, under}
+use Rattle.vb_world.proofs.Histories.{events_of-push, under-append}
 use Rattle.mcbp_frame.specs.declared.frame.FrameData.{FrameData}
-use Rattle.mcbp_ops.specs.Text.{reply_text, status_text}
+use Rattle.mcbp_ops.specs.Text.{reply_text}
 use Rattle.conn_core.specs.declared.act.ActData.{ActData}
 use Rattle.conn_core.specs.declared.act.ActData.TheVariants as acts
 use Rattle.conn_core.specs.declared.conn.Conn.{Conn}
 use Rattle.conn_core.specs.declared.hello.Features.{Features}
+use Rattle.conn_core.specs.Conns.{IsNew}
 use Rattle.conn_core.specs.Acts.{own_text, features_after}
 use Rattle.conn_core.proofs.ActLemmas.{engine_features}
 use Rattle.ep_top.specs.declared.front.Front.{Front}
+use Rattle.conn_core.specs.declared.conn.TheConstants.{OUT_ROOM, VALUE_ROOM}
 use Rattle.ep_top.specs.declared.front.TheConstants.{VBUCKETS}
 use Rattle.ep_top.specs.Calls.{Calls}
 use Rattle.ep_top.specs.Exchange.{act_in, act_event, act_text, is_quit}
-use Rattle.ep_top.specs.Front.{start, Answered, IsSound}
+use Rattle.ep_top.specs.Front.{session_config, session_front, IsLegalHistory, IsSound, Answered}
 
 -- an answered call stands at the end of a legal history, whose world is then the one that the call leaves
-pub world_after_call : (world : World) (history : List EventData) (caller now : ℕ) (call : CallData) (reply : Reply) (value : List ℕ)
-    → world ≡ after start history → apply world (answer world call now).effect ≡ after start (history ++ Called caller call now reply value ∷ [])
-world_after_call world history caller now call reply value e =
-    ap (λ (w : World). apply w (answer w call now).effect) e ∙ sym (after-append start history (Called caller call now reply value ∷ []))
+world_after_call : (world : World) (events : List EventData) (caller now : ℕ) (call : CallData) (reply : Reply) (value : List ℕ)
+    → world ≡ world_of (session_front events) → apply world (answer world call now).effect ≡ world_of (session_front (events ++ Called caller call now reply value ∷ []))
+world_after_call world events caller now call reply value e =
+    ap (λ (w : World). apply w (answer w call now).effect) e ∙ sym (after-append (begun (session_front [])) events (Called caller call now reply value ∷ []))
 
-pub legal_after_call : (world : World) (history : List EventData) (caller now : ℕ) (call : CallData) (reply : Reply) (value : List ℕ)
-    → world ≡ after start history → world.opened ≡ true → reply ≡ (answer world call now).reply → value ≡ (answer world call now).value
-    → IsLegal start history → IsLegal start (history ++ Called caller call now reply value ∷ [])
-legal_after_call world history caller now call reply value e opened r v legal =
-    legal-push start history _ legal (sym (ap (λ (w : World). w.opened) e) ∙ opened, r ∙ ap (λ (w : World). (answer w call now).reply) e, v ∙ ap (λ (w : World). (answer w call now).value) e)
+may_call : (world : World) (events : List EventData) (caller now : ℕ) (call : CallData) (reply : Reply) (value : List ℕ)
+    → world ≡ world_of (session_front events) → world.opened ≡ true → reply ≡ (answer world call now).reply → value ≡ (answer world call now).value
+    → May (session_front events) (Called caller call now reply value)
+unfolding May
+may_call world events caller now call reply value e opened r v = record {
+  opened = sym (ap (λ (w : World). w.opened) e) ∙ opened;
+  reply_is = r ∙ ap (λ (w : World). (answer w call now).reply) e;
+  value_is = v ∙ ap (λ (w : World). (answer w call now).value) e;
+}
+
+-- one event more of vBucket 0
+events_after : (old new : List (ℕ × EventData)) (event : EventData) → new ≡ old ++ (0, event) ∷ [] → events_of 0 new ≡ events_of 0 old ++ event ∷ []
+events_after old new event e = ap (events_of 0) e ∙ events_of-push 0 old event
+
+history_after : (old new : List (ℕ × EventData)) (event : EventData) → IsLegalHistory old → new ≡ old ++ (0, event) ∷ [] → May (session_front (events_of 0 old)) event → IsLegalHistory new
+history_after old new event h e may = record {
+  only =
+      e ∙ ap (λ (l : List (ℕ × EventData)). l ++ (0, event) ∷ []) h.only ∙ sym (under-append 0 (events_of 0 old) (event ∷ []))
+      ∙ ap (under 0) (sym (events_after old new event e));
+  legal = subst (λ (l : List EventData). IsLegal (session_front l)) (sym (events_after old new event e)) (legal-push (session_front (events_of 0 old)) event h.legal may);
+}
+
+-- nothing is legal, and of vBucket 0
+no_history : IsLegalHistory []
+no_history = record { only = refl; legal = legal-bare session_config 0 (Some empty_start) }
 
 -- no effect closes a vBucket
 pub opened-apply : (w : World) (effect : Effect) → (apply w effect).opened ≡ w.opened
@@ -48,8 +73,11 @@ pub sound_after_call : (old new : Front) (sorted : Conn) (frame : FrameData) (ca
     → sorted.out.spare + length sorted.out.bytes ≡ old.conn.out.spare + length old.conn.out.bytes → sorted.value ≡ old.conn.value
     → Calls frame call now old.plain new.plain old.history new.history sorted new.conn → IsSound new
 sound_after_call old new sorted frame call now s room value c = record {
-  world = c.world ∙ world_after_call old.plain old.history 0 now call c.reply c.value s.world ∙ ap (λ (h : List EventData). after start h) (sym c.noted);
-  legal = subst (λ (h : List EventData). IsLegal start h) (sym c.noted) (legal_after_call old.plain old.history 0 now call c.reply c.value s.world s.opened c.replied c.shown s.legal);
+  world =
+      c.world ∙ world_after_call old.plain (events_of 0 old.history) 0 now call c.reply c.value s.world
+      ∙ ap (λ (l : List EventData). world_of (session_front l)) (sym (events_after old.history new.history (Called 0 call now c.reply c.value) c.noted));
+  legal = history_after old.history new.history (Called 0 call now c.reply c.value) s.legal c.noted
+      (may_call old.plain (events_of 0 old.history) 0 now call c.reply c.value s.world s.opened c.replied c.shown);
   opened = ap (λ (w : World). w.opened) c.world ∙ opened-apply old.plain (answer old.plain call now).effect ∙ s.opened;
   answers = c.out_room ∙ room ∙ s.answers;
   value = c.value_room ∙ ap (λ (o : OutData). o.spare + length o.bytes) value ∙ s.value;
@@ -66,7 +94,9 @@ answered_call f m next old new sorted call now told asked act text features c = 
   value = c.value;
   told = told;
   asked = asked;
-  noted = c.noted ∙ ap (λ (a : ActData). old.history ++ act_event a now c.reply c.value) act;
+  noted =
+      events_after old.history new.history (Called 0 call now c.reply c.value) c.noted
+      ∙ ap (λ (a : ActData). events_of 0 old.history ++ act_event a now c.reply c.value) act;
   text =
       c.text ∙ ap (λ l. l ++ reply_text f c.reply c.value sorted.features.seqno) text
       ∙ append_assoc old.conn.out.bytes (own_text VBUCKETS f) (reply_text f c.reply c.value sorted.features.seqno)
@@ -92,10 +122,31 @@ answered_frame f m next old new sorted act text quit now told asked is event sho
   value = [];
   told = told;
   asked = asked;
-  noted = history ∙ sym (append-nil old.history) ∙ ap (λ l. old.history ++ l) (sym (event no_reply)) ∙ ap (λ (a : ActData). old.history ++ act_event a now no_reply []) is;
+  noted =
+      ap (events_of 0) history ∙ sym (append-nil (events_of 0 old.history)) ∙ ap (λ l. events_of 0 old.history ++ l) (sym (event no_reply))
+      ∙ ap (λ (a : ActData). events_of 0 old.history ++ act_event a now no_reply []) is;
   text =
       bytes ∙ ap (λ l. l ++ text) own ∙ append_assoc old.conn.out.bytes (own_text VBUCKETS f) text
       ∙ ap (λ l. old.conn.out.bytes ++ (own_text VBUCKETS f ++ l)) (sym (shown no_reply) ∙ ap (λ (a : ActData). act_text old.conn.features f a no_reply []) is);
   features = kept ∙ features;
   quits = ap (λ (a : ActData). is_quit a) (sym is) ∙ quits;
 }
+
+empty_room : (o : OutData) → o.bytes ≡ [] → o.spare + length o.bytes ≡ o.spare
+empty_room o none = ap (λ (l : List ℕ). o.spare + length l) none ∙ add-zero o.spare
+
+-- a front that has opened and did nothing else
+pub sound_fresh : (f : Front) → f.history ≡ [] ++ (0, Opened) ∷ [] → f.plain ≡ record (begun (session_front [])) { opened = true }
+    → IsNew f.conn → f.conn.out.spare ≡ OUT_ROOM → f.conn.value.spare ≡ VALUE_ROOM → IsSound f
+unfolding May
+sound_fresh f noted plain new out value = record {
+  world = plain ∙ ap (λ (l : List EventData). world_of (session_front l)) (sym (events_after [] f.history Opened noted));
+  legal = history_after [] f.history Opened no_history noted (record { put = refl; unopened = refl });
+  opened = ap (λ (w : World). w.opened) plain;
+  answers = empty_room f.conn.out new.out ∙ out;
+  value = empty_room f.conn.value new.value ∙ value;
+}
+
+pub err_three : {T E A B C : Type 0} (r : Result T E) → A → B → C → OnErr r (A × B × C)
+err_three (Ok x) a b c = tt
+err_three (Err e) a b c = (a, b, c)

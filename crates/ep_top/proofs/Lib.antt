@@ -1,4 +1,3 @@
-pub mod Kept
 pub mod Fronts
 pub mod Stands
 pub mod Pieces

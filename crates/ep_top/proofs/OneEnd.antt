@@ -1,12 +1,9 @@
 -- The ends of a session exclude each other.
-use Rattle.std.proofs.Common.{◌≡◌, ◌≢◌, ℕ, ◌+◌, ◌<◌, ◌≤◌, Bool, true, false, List, [], length, refl, sym, ap, subst, ◌∙◌, arith}
-use Rattle.mcbp_frame.specs.Division.{IsPartial, HasBadMagic, IsTooLong}
+use Rattle.std.proofs.Common.{◌≡◌, ℕ, ◌+◌, ◌<◌, Bool, true, false, List, [], length, refl, sym, ap, subst, arith}
+use Rattle.mcbp_frame.specs.Division.{IsPartial}
 use Rattle.mcbp_frame.proofs.DivisionLemmas.{partial_or_bad_magic, partial_or_too_long, bad_magic_or_too_long}
-use Rattle.ep_top.specs.declared.end.End.{End}
 use Rattle.ep_top.specs.declared.end.End.TheVariants as ends
 use Rattle.ep_top.specs.declared.session.TheConstants.{MAX_TAKEN}
-use Rattle.ep_top.specs.Outside.{Outside}
-use Rattle.ep_top.specs.Session.{is_cut, Comes, HasEnded, MayGoOn}
 use Rattle.ep_top.specs.Laws.{OneEnd}
 
 none_is_partial : (rest : List ℕ) → rest ≡ [] → IsPartial rest

@@ -1,22 +1,22 @@
 -- A session goes on piece by piece, and how it stops.
-use Rattle.std.proofs.Common.{◌≡◌, ◌≢◌, ◌⊎◌, ℕ, ◌+◌, ◌≤◌, ◌<◌, Bool, true, false, ◌||◌, List, [], ◌∷◌, ◌++◌, length, refl, sym, ap, subst, ◌∙◌, inl, inr, Option, None, Some, arith, append_assoc, append-nil, zero-add, length-append}
+use Rattle.std.proofs.Common.{◌≡◌, ◌≢◌, ℕ, ◌+◌, ◌≤◌, ◌<◌, Bool, true, false, ◌||◌, List, [], ◌∷◌, ◌++◌, length, refl, sym, ap, subst, ◌∙◌, Option, None, Some, arith, append_assoc, append-nil, zero-add, length-append}
 use Rattle.std.specs.List.{concat}
-use Rattle.ep_edge.specs.Edge.{Takes, Rose, IsEmptied, Appends}
+use Rattle.ep_edge.specs.Edge.{Takes, Rose, IsEmptied}
 use Rattle.ep_edge.specs.declared.source.Got.{Got}
 use Rattle.ep_edge.specs.declared.source.Got.TheVariants as got
-use Rattle.ep_model.specs.History.{IsLegal}
 use Rattle.mcbp_frame.specs.declared.feeder.FeederData.{FeederData}
-use Rattle.mcbp_frame.specs.Division.{IsPartial, HasBadMagic, IsTooLong}
+use Rattle.mcbp_frame.specs.Division.{IsPartial}
 use Rattle.conn_core.specs.declared.hello.Features.{Features}
+use Rattle.vb_world.specs.History.{events_of}
 use Rattle.ep_top.specs.declared.end.End.{End}
 use Rattle.ep_top.specs.declared.end.End.TheVariants as ends
 use Rattle.ep_top.specs.declared.front.Front.{Front}
 use Rattle.ep_top.specs.declared.session.TheConstants.{MAX_TAKEN}
-use Rattle.ep_top.specs.Front.{start, IsSound, IsFresh}
+use Rattle.ep_top.specs.Front.{IsLegalHistory, IsSound, IsFresh}
 use Rattle.ep_top.specs.Outside.{Outside}
 use Rattle.ep_top.specs.Piece.{Feeds}
 use Rattle.ep_top.specs.Stand.{Stand, stand, bytes_of, Serves, Breaks, HasStopped, is_quit_end}
-use Rattle.ep_top.specs.Session.{HasEnded, MayGoOn, Comes, begin, Progress, Stops, EndsAt}
+use Rattle.ep_top.specs.Session.{HasEnded, Comes, begin, Progress, Stops, EndsAt}
 use Rattle.ep_top.proofs.Stands.{serves_then, rose_from, appends_nothing}
 
 pub or_false : (b : Bool) → (b || false) ≡ b
@@ -102,7 +102,7 @@ not_bad_words end rest kept at rose h e = subst (λ (x : End). HasStopped x rest
 pub stops_in_frames : (end : End) (before mid now : Outside) (count n at : ℕ) (rest fed rest' : List ℕ) (front front' : Front)
     → Progress before mid count rest front → Feeds (got.Bytes n) rest fed mid.left now.left
     → Breaks end (stand fed front mid.held mid.moment false) (stand rest' front' now.held now.moment false) at (Rose mid.write_faults now.write_faults)
-    → IsLegal start front'.history → at + length rest' ≡ count + n
+    → IsLegalHistory front'.history → at + length rest' ≡ count + n
     → Stops before now end front'
 stops_in_frames end before mid now count n at rest fed rest' front front' p f b legal place =
     let long : length (p.taken ++ f.piece) ≡ count + n = omega (arith, length-append p.taken f.piece, p.counted, f.count) in
@@ -215,7 +215,7 @@ progress_none before rest front none fresh sound = record {
     written = [];
     rest = sym none;
     each = tt;
-    noted = fresh.history;
+    noted = ap (events_of 0) fresh.history;
     texts = fresh.answers;
     features = ap (λ (b : Bool). let f : Features = record { seqno = b } in f) fresh.features;
     quits = refl;

@@ -1,10 +1,9 @@
 -- How a session goes on: what was served and written adds up.
-use Rattle.std.proofs.Common.{◌≡◌, ◌≢◌, ℕ, Bool, true, false, ◌+◌, ◌≤◌, List, [], ◌∷◌, ◌++◌, length, drop, map, refl, sym, ap, subst, ◌∙◌, Option, None, Some, IfSome, arith, append_assoc, append-nil, length-append, add-zero, zero-add}
+use Rattle.std.proofs.Common.{◌≡◌, ℕ, Bool, false, ◌+◌, ◌≤◌, List, [], ◌∷◌, ◌++◌, length, drop, refl, sym, ap, subst, ◌∙◌, Option, None, Some, IfSome, arith, append_assoc, append-nil, length-append, add-zero, zero-add}
 use Rattle.std.proofs.lemmas.List.{map-append, take-append-drop, length-drop, length-take}
 use Rattle.std.proofs.lemmas.Grind.{flat_map-append}
 use Rattle.std.specs.List.{AllByRecursion, concat, flat_map}
 use Rattle.ep_edge.specs.Edge.{Appends, Rose}
-use Rattle.ep_model.specs.declared.call.Reply.{Reply}
 use Rattle.mcbp_frame.specs.declared.frame.Frame.{Frame}
 use Rattle.mcbp_frame.specs.declared.feeder.FeederData.{FeederData}
 use Rattle.mcbp_frame.specs.declared.feeder.Next.{Next}
@@ -16,6 +15,7 @@ use Rattle.conn_core.specs.declared.hello.Features.{Features}
 use Rattle.conn_core.specs.Acts.{features_after}
 use Rattle.mcbp_frame.specs.Frames.{IsFrame, frame_at, frame_data, frame_length}
 use Rattle.mcbp_frame.proofs.DivisionLemmas.{first_whole, frame_length_front}
+use Rattle.vb_world.specs.History.{events_of}
 use Rattle.ep_top.specs.declared.end.End.{End}
 use Rattle.ep_top.specs.declared.end.End.TheVariants as ends
 use Rattle.ep_top.specs.declared.front.Front.{Front}
@@ -129,7 +129,7 @@ serves_answer bytes rest more at old new held m later quit frame split a = recor
   written = [];
   rest = split ∙ ap (λ l. l ++ more) (sym (append-nil bytes));
   each = (frame, tt);
-  noted = a.noted ∙ ap (λ l. old.history ++ l) (sym (append-nil _));
+  noted = a.noted ∙ ap (λ l. events_of 0 old.history ++ l) (sym (append-nil _));
   texts = a.text ∙ ap (λ l. old.conn.out.bytes ++ l) (sym (append-nil _));
   features = a.features;
   quits = (refl, sym a.quits);
@@ -182,7 +182,7 @@ breaks_memory_at rest more old new left held now m later at rose w history same 
     written = w.written;
     rest = refl;
     each = tt;
-    noted = history ∙ sym (append-nil old.history);
+    noted = ap (events_of 0) history ∙ sym (append-nil (events_of 0 old.history));
     texts = ap (λ l. w.written ++ l) same ∙ sym w.parts ∙ sym (append-nil old.conn.out.bytes);
     features = features;
     quits = refl;
@@ -275,7 +275,7 @@ serves_none held later n old new sink now m e same history features w = record {
   written = w.written;
   rest = sym (ap (λ (x : FeederData). x.rest) (e ∙ same));
   each = tt;
-  noted = history ∙ sym (append-nil old.history);
+  noted = ap (events_of 0) history ∙ sym (append-nil (events_of 0 old.history));
   texts = sym w.parts ∙ sym (append-nil old.conn.out.bytes);
   features = features;
   quits = refl;

@@ -1,7 +1,6 @@
 -- A frame and its answer: the event of one, and the bytes that answer it.
-use Rattle.std.specs.Prelude.{◌≡◌, ℕ, ◌+◌, Bool, true, false, List, [], ◌∷◌, ◌++◌, Option, Some, None, IfSome}
+use Rattle.std.specs.Prelude.{◌≡◌, ℕ, ◌+◌, Bool, true, false, List, [], ◌∷◌, ◌++◌, Option, IfSome}
 use Rattle.ep_model.specs.declared.call.Reply.{Reply}
-use Rattle.ep_model.specs.declared.data.CallData.{CallData}
 use Rattle.ep_model.specs.declared.data.EventData.{EventData}
 use Rattle.ep_model.specs.declared.data.EventData.TheVariants.{Called}
 use Rattle.ep_model.specs.declared.status.TheConstants.{KEY_NOT_FOUND}

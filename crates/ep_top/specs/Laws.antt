@@ -1,5 +1,5 @@
 -- What is true of all sessions.
-use Rattle.std.specs.Prelude.{◌≡◌, ◌≢◌, ℕ, Bool, true, false, List}
+use Rattle.std.specs.Prelude.{◌≡◌, ◌≢◌, ℕ, Bool, false, List}
 use Rattle.ep_top.specs.declared.end.End.{End}
 use Rattle.ep_top.specs.declared.end.End.TheVariants as ends
 use Rattle.ep_top.specs.Outside.{Outside}

@@ -2,7 +2,6 @@ pub mod Calls
 pub mod End
 pub mod Exchange
 pub mod Front
-pub mod History
 pub mod Laws
 pub mod Outside
 pub mod Session

@@ -1,5 +1,5 @@
 -- A piece of the stream that was read and fed.
-use Rattle.std.specs.Prelude.{◌≡◌, ℕ, Bool, true, false, List, ◌++◌, length, Option}
+use Rattle.std.specs.Prelude.{◌≡◌, ℕ, List, ◌++◌, length, Option}
 use Rattle.ep_edge.specs.declared.source.Got.{Got}
 use Rattle.ep_edge.specs.declared.source.Got.TheVariants.{Bytes, End, Failed}
 use Rattle.ep_edge.specs.Edge.{Takes}

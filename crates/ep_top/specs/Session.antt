@@ -1,19 +1,19 @@
 -- What a session does: the bytes it takes, the frames it serves, the history, what it writes, and how it ends.
-use Rattle.std.specs.Prelude.{◌≡◌, ◌≢◌, ◌⊎◌, ℕ, ◌+◌, ◌^◌, ◌<◌, ◌≤◌, Bool, true, false, List, [], ◌∷◌, ◌++◌, length, map, Option, Some, None, codes}
+use Rattle.std.specs.Prelude.{◌≡◌, ◌≢◌, ◌⊎◌, ℕ, ◌+◌, ◌<◌, ◌≤◌, Bool, true, false, List, [], ◌∷◌, ◌++◌, length, Option, codes}
 use Rattle.std.specs.List.{flat_map}
-use Rattle.ep_model.specs.World.{World}
-use Rattle.ep_model.specs.History.{IsLegal}
+use Rattle.ep_model.specs.Legal.{IsLegal}
 use Rattle.ep_model.specs.declared.data.EventData.{EventData}
 use Rattle.ep_model.specs.declared.data.EventData.TheVariants.{Opened}
 use Rattle.ep_edge.specs.Edge.{Takes, Rose, IsEmptied, Appends}
 use Rattle.mcbp_frame.specs.Division.{Divides, HasBadMagic, IsTooLong, IsPartial}
 use Rattle.mcbp_frame.specs.declared.feeder.FeederData.{FeederData}
+use Rattle.vb_world.specs.History.{events_of, under}
 use Rattle.ep_top.specs.declared.end.End.{End}
 use Rattle.ep_top.specs.declared.end.End.TheVariants as ends
 use Rattle.ep_top.specs.declared.front.Front.{Front}
 use Rattle.ep_top.specs.declared.session.TheConstants.{MAX_TAKEN}
 use Rattle.ep_top.specs.Exchange.{Exchange, event_of, texts_of, StopsAtQuit, AreMoments}
-use Rattle.ep_top.specs.Front.{start, IsSound}
+use Rattle.ep_top.specs.Front.{session_front, IsLegalHistory, IsSound}
 use Rattle.ep_top.specs.Outside.{Outside}
 use Rattle.ep_top.specs.Stand.{Stand, stand, bytes_of, Serves, Writes, is_quit_end}
 
@@ -68,7 +68,7 @@ IsNoted ends.WriteFault history served = history ≡ Opened ∷ flat_map event_o
 IsNoted ends.Quit history served = history ≡ Opened ∷ flat_map event_of served
 IsNoted ends.Closed history served = history ≡ Opened ∷ flat_map event_of served
 
-pub record IsSession (before now : Outside) (end : End) (history : List EventData) : Type 0 where
+pub record IsSession (before now : Outside) (end : End) (history : List (ℕ × EventData)) : Type 0 where
   -- the bytes taken from the source, their one division, and what was served and written
   pub taken : List ℕ
   pub frames : List (List ℕ)
@@ -90,9 +90,12 @@ pub record IsSession (before now : Outside) (end : End) (history : List EventDat
   pub few : extra ≤ 1
   pub exact : is_cut end ≡ false → extra ≡ 0
   pub asked : (k : ℕ) → now.moment k ≡ before.moment (length served + (extra + k))
-  -- one legal history has each call once, in order, with the never-ejecting map's reply
-  pub noted : IsNoted end history served
-  pub legal : IsLegal start history
+  -- one legal history of vBucket 0 has each call once, in order, with the never-ejecting map's reply, and nothing else
+  -- stands beside it
+  pub events : List EventData
+  pub only : history ≡ under 0 events
+  pub noted : IsNoted end events served
+  pub legal : IsLegal (session_front events)
   -- what was written is the text of the answers, or after a fault of writing a front of it
   pub wrote : Appends before.held now.held written
   pub texts : written ++ lost ≡ texts_of (record { seqno = false }) served
@@ -140,13 +143,13 @@ pub record Stops (before now : Outside) (end : End) (front : Front) : Type 0 whe
   pub pending : List ℕ
   pub moment : ℕ → Option ℕ
   pub takes : Takes before.left now.left taken
-  pub serves : Serves (begin before taken) (record { rest = rest; history = front.history; pending = pending; held = now.held; moment = moment; features = front.conn.features; quit = is_quit_end end })
+  pub serves : Serves (begin before taken) (record { rest = rest; history = events_of 0 front.history; pending = pending; held = now.held; moment = moment; features = front.conn.features; quit = is_quit_end end })
   pub kept : end ≢ ends.WriteFault → pending ≡ front.conn.out.bytes
   pub extra : ℕ
   pub few : extra ≤ 1
   pub exact : end ≢ ends.NoMemory → extra ≡ 0
   pub asked : (k : ℕ) → now.moment k ≡ moment (extra + k)
-  pub legal : IsLegal start front.history
+  pub legal : IsLegalHistory front.history
   pub comes : Comes before now taken rest (is_quit_end end) end
   pub served : end ≢ ends.BadWords
 

@@ -1,17 +1,18 @@
 -- How far a session is, and how it goes on from there.
-use Rattle.std.specs.Prelude.{◌≡◌, ◌≢◌, ℕ, ◌+◌, ◌≤◌, Bool, true, false, List, [], ◌∷◌, ◌++◌, length, map, Option}
+use Rattle.std.specs.Prelude.{◌≡◌, ◌≢◌, ℕ, ◌+◌, ◌≤◌, Bool, true, false, List, ◌++◌, length, map, Option}
 use Rattle.std.specs.List.{AllByRecursion, concat, flat_map}
 use Rattle.ep_model.specs.declared.data.EventData.{EventData}
-use Rattle.ep_edge.specs.Edge.{Appends, Rose}
+use Rattle.ep_edge.specs.Edge.{Appends}
 use Rattle.mcbp_frame.specs.Frames.{IsFrame}
 use Rattle.mcbp_frame.specs.Division.{HasBadMagic, IsTooLong}
 use Rattle.conn_core.specs.declared.hello.Features.{Features}
+use Rattle.vb_world.specs.History.{events_of}
 use Rattle.ep_top.specs.declared.end.End.{End}
 use Rattle.ep_top.specs.declared.end.End.TheVariants as ends
 use Rattle.ep_top.specs.declared.front.Front.{Front}
 use Rattle.ep_top.specs.Exchange.{Exchange, event_of, texts_of, features_of, StopsAtQuit, AreMoments}
 
--- the bytes that were taken and aren't served, the history, the answers that aren't written, what sink and clock tell, the
+-- the bytes that were taken and aren't served, the history of vBucket 0, the answers that aren't written, what sink and clock tell, the
 -- features, and whether a Quit was served
 pub record Stand : Type 0 where
   pub rest : List ℕ
@@ -23,7 +24,7 @@ pub record Stand : Type 0 where
   pub quit : Bool
 
 abbrev pub stand : List ℕ → Front → Option (List ℕ) → (ℕ → Option ℕ) → Bool → Stand
-stand rest front held moment quit = record { rest = rest; history = front.history; pending = front.conn.out.bytes; held = held; moment = moment; features = front.conn.features; quit = quit }
+stand rest front held moment quit = record { rest = rest; history = events_of 0 front.history; pending = front.conn.out.bytes; held = held; moment = moment; features = front.conn.features; quit = quit }
 
 -- the bytes of these frames, one after the other
 abbrev pub bytes_of : List Exchange → List (List ℕ)

@@ -5,18 +5,18 @@ ghost use Rattle.ep_model.specs.History.{call_data};
 ghost use Rattle.ep_model.specs.Limits.{IsWithin};
 ghost use Rattle.ep_model.specs.declared.data.EventData.TheVariants.{Called};
 ghost use Rattle.mcbp_frame.specs.Frames.{frame_data};
-ghost use Rattle.mcbp_ops.specs.Text.{status_text, reply_text};
+ghost use Rattle.mcbp_ops.specs.Text.{reply_text};
 ghost use Rattle.conn_core.specs.declared.conn.TheConstants.{VALUE_ROOM};
 ghost use Rattle.ep_top.specs.Calls.{Calls};
 ghost use Rattle.ep_top.specs.Stand.{Writes};
 
-use crate::history::History;
-use conn_core::{Act, Conn, VALUE_ROOM};
+use conn_core::{Act, Conn, VALUE_ROOM, put_status};
 use ep_edge::{Clock, Put, Sink};
-use ep_model::{Call, NoMemory, Out, Plain, status};
-use mcbp_frame::{Frame, HEADER, put_response};
+use ep_model::{Call, Event, NoMemory, Out, Plain, Reply, status};
+use mcbp_frame::Frame;
 use mcbp_ops::reply_text;
 use std::alloc::Global;
+use vb_world::History;
 
 /// How many vBuckets there are.
 pub const VBUCKETS: u16 = 1;
@@ -40,7 +40,7 @@ impl Front {
         ensures sound { IfOk result IsSound }
     {
         let mut history = History::new(alloc);
-        history.note_opened()?;
+        history.note(0, &Event::Opened)?;
         Ok(Front {
             plain: Plain::new(alloc, 0),
             history,
@@ -102,18 +102,30 @@ fn answer_call(
     conn.value.cut(0);
     let reply = plain.answer(call, now, &mut conn.value)?;
     let value = conn.value.bytes();
-    history.note_called(0, call, now, reply, value)?;
+    note_call(history, call, now, reply, value)?;
     reply_text(frame, &reply, value, conn.features.seqno, &mut conn.out);
     Ok(())
 }
 
-// Appends a response that is a status alone.
-fn put_status(out: &mut Out, frame: &Frame, status: u16)
-    requires { HEADER ≤ out.old.spare }
-    ensures bytes { out.new.bytes ≡ out.old.bytes ++ status_text (frame_data frame.now) status }
-    ensures room { out.new.spare + length out.new.bytes ≡ out.old.spare + length out.old.bytes }
+// Notes that a call of caller 0 on vBucket 0 was answered. At an error nothing was noted.
+fn note_call(
+    history: &mut History,
+    call: &Call,
+    now: u64,
+    reply: Reply,
+    value: &[u8],
+) -> Result<(), NoMemory>
+    ensures ok { OnOk result (history.new ≡ history.old ++ (0, Called 0 (call_data call.now) now reply value.now) ∷ []) }
+    ensures err { OnErr result (history.new ≡ history.old) }
 {
-    put_response(out, frame.opcode, status, frame.opaque, 0, 0, &[], &[], &[]);
+    let event = Event::Called {
+        caller: 0,
+        call: *call,
+        now,
+        reply,
+        value,
+    };
+    history.note(0, &event)
 }
 
 /// Writes the answers that aren't written yet. After a fault some of them are lost.

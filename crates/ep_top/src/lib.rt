@@ -3,12 +3,10 @@
 
 mod end;
 mod front;
-mod history;
 mod laws;
 mod session;
 
 pub use end::End;
-pub use history::History;
 pub use laws::one_end;
 pub use session::{MAX_TAKEN, SessionEnd, run_session};
 

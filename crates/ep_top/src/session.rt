@@ -1,9 +1,8 @@
 // The session: bytes in, answers out, and the history of what was answered.
 ghost use Rattle.std.specs.Prelude.{◌≡◌, ◌≢◌, ◌||◌, ◌+◌, ◌<◌, ◌≤◌, ◌^◌, ◌++◌, ◌↔◌, ℕ, List, [], length, map, true, false, string_bytes, OnOk, OnErr, IfOk, IfErr};
 ghost use Rattle.ep_edge.specs.Edge.{Rose, IsEmptied, is_end};
-ghost use Rattle.ep_model.specs.History.{IsLegal};
 ghost use Rattle.mcbp_frame.specs.Division.{IsPartial};
-ghost use Rattle.ep_top.specs.Front.{start, IsSound, IsFresh};
+ghost use Rattle.ep_top.specs.Front.{IsLegalHistory, IsSound, IsFresh};
 ghost use Rattle.ep_top.specs.Outside.{outside};
 ghost use Rattle.ep_top.specs.Stand.{stand, Serves, Breaks};
 ghost use Rattle.ep_top.specs.Session.{IsSession, IsSessionCommand, Stops, EndsAt, Finishes};
@@ -11,11 +10,11 @@ ghost use Rattle.ep_top.specs.Piece.{count_of, Feeds};
 
 use crate::end::End;
 use crate::front::{Front, flush, make_room};
-use crate::history::History;
 use ep_edge::{Clock, Got, Put, Sink, Source};
 use ep_model::{NoMemory, Out};
 use mcbp_frame::{Feeder, Next};
 use std::alloc::Global;
+use vb_world::History;
 
 /// How many bytes one session takes at most.
 pub const MAX_TAKEN: u64 = 0x100_0000_0000;
@@ -23,7 +22,7 @@ pub const MAX_TAKEN: u64 = 0x100_0000_0000;
 /// How many bytes are read at once at most.
 pub const PIECE: usize = 65_536;
 
-/// How a session ended, and the history of the vBucket that it served.
+/// How a session ended, and its history, whose events are all of vBucket 0.
 #[derive(Drop)]
 pub struct SessionEnd {
     pub end: End,
@@ -46,7 +45,7 @@ fn serve_next<W: Sink, C: Clock>(
     ensures partial { result ≡ Ok false → IsPartial feeder.new.rest }
 
     ensures breaks { IfErr result (λ end. Breaks end (stand feeder.old.rest front.old (W.held sink.old) (C.moment clock.old) false) (stand feeder.new.rest front.new (W.held sink.new) (C.moment clock.new) false) feeder.new.at (Rose (W.faults sink.old) (W.faults sink.new))) }
-    ensures legal { OnErr result (IsLegal start front.new.history) }
+    ensures legal { OnErr result (IsLegalHistory front.new.history) }
 
     ensures place { feeder.new.at + length feeder.new.rest ≡ feeder.old.at + length feeder.old.rest }
     ensures faults { W.faults sink.old ≤ W.faults sink.new }
@@ -82,7 +81,7 @@ fn drain<W: Sink, C: Clock>(
     ensures written { OnOk result (front.new.conn.out.bytes ≡ []) }
 
     ensures breaks { IfErr result (λ end. Breaks end (stand feeder.old.rest front.old (W.held sink.old) (C.moment clock.old) false) (stand feeder.new.rest front.new (W.held sink.new) (C.moment clock.new) false) feeder.new.at (Rose (W.faults sink.old) (W.faults sink.new))) }
-    ensures legal { OnErr result (IsLegal start front.new.history) }
+    ensures legal { OnErr result (IsLegalHistory front.new.history) }
 
     ensures place { feeder.new.at + length feeder.new.rest ≡ feeder.old.at + length feeder.old.rest }
     ensures faults { W.faults sink.old ≤ W.faults sink.new }

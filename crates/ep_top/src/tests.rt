@@ -3,6 +3,7 @@ use ep_edge::{MemoryClock, MemorySink, MemorySource};
 use std::alloc::{AllocError, AllocGlobal, Global};
 use std::process::Abort;
 use std::test::Fail;
+use vb_world::History;
 
 mod calls;
 mod ends;

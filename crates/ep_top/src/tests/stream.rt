@@ -63,13 +63,16 @@ fn the_history_gives_back_a_call(rt: HostRuntime) -> Result<(), Fail> {
     let alloc = rt.alloc();
     let outcome = session(alloc, &bytes_of(alloc, &[SET, NOOP, GET])?, Vec::new(alloc))?;
     assert_eq!(rt; outcome.history.count(), 3);
-    let Event::Called {
-        caller,
-        call: Call::Get { key },
-        now,
-        reply,
-        value,
-    } = outcome.history.event(2)
+    let (
+        0,
+        Event::Called {
+            caller,
+            call: Call::Get { key },
+            now,
+            reply,
+            value,
+        },
+    ) = outcome.history.event(2)
     else {
         panic!(rt; "no Get");
     };

@@ -1,8 +1,7 @@
 -- The value fits its buffer, and so the answer fits the output.
-use Rattle.std.proofs.Common.{◌≡◌, ◌∙◌, ◌+◌, ◌≤◌, ◌++◌, ℕ, List, [], length, ap, refl, arith}
+use Rattle.std.proofs.Common.{◌≡◌, ◌∙◌, ◌+◌, ◌++◌, ℕ, List, [], length, ap, refl, arith}
 use Rattle.ep_model.specs.Answer.{answer}
 use Rattle.ep_model.specs.History.{call_data}
-use Rattle.conn_core.specs.declared.conn.TheConstants.{VALUE_ROOM}
 use Rattle.ep_top.proofs.front.answer_call.Goals as goal
 
 emptied : (bytes : List ℕ) (spare old : ℕ) → bytes ≡ [] → spare + 0 ≡ old → spare + length bytes ≡ old
@@ -27,7 +26,7 @@ returns-clause-called c = record {
   replied = c.in_ok-reply.ensures.reply;
   shown = c.bytes-value.ensures ∙ c.in_ok-reply.ensures.value ∙ ap (λ (l : List ℕ). l ++ (answer c.args.plain.now (call_data c.args.call.now) c.args.now).value) c.cut.ensures.bytes;
   world = c.in_ok-reply.ensures.world;
-  noted = c.in_ok-note_called.ensures.ok;
+  noted = c.in_ok-note_call.ensures.ok;
   text = c.reply_text.ensures.bytes;
   features = refl;
   out_room = c.reply_text.ensures.room;

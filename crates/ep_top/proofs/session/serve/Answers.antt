@@ -1,7 +1,7 @@
 -- What a session does once it stopped and wrote its last answers.
-use Rattle.std.proofs.Common.{refl, arith}
+use Rattle.std.proofs.Common.{refl}
 use Rattle.ep_top.specs.Outside.{outside}
-use Rattle.ep_top.proofs.Ends.{session_finished, finished_served}
+use Rattle.ep_top.proofs.Ends.{session_finished}
 use Rattle.ep_top.proofs.session.serve.Goals as goal
 
 pub returns-clause-session : goal.returns-clause-session

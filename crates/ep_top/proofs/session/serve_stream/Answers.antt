@@ -1,6 +1,6 @@
 -- Piece after piece.
-use Rattle.std.proofs.Common.{◌≡◌, ◌∙◌, ◌+◌, ℕ, List, length, ap, refl, arith}
-use Rattle.ep_top.specs.Outside.{Outside, outside}
+use Rattle.std.proofs.Common.{◌∙◌, ℕ, List, length, ap, refl, arith}
+use Rattle.ep_top.specs.Outside.{outside}
 use Rattle.ep_top.proofs.Sessions.{progress_none, progress_more, stops_in_frames, stops_at_end, stops_at_fault, stops_at_limit, feeds_length, or_false, or_true}
 use Rattle.ep_top.proofs.session.serve_stream.Goals as goal
 

@@ -1,5 +1,5 @@
 use Rattle.std.proofs.Common.{◌≡◌, ◌+◌, ◌-◌, ◌≤◌, length}
-use Rattle.ep_top.specs.declared.session.TheConstants.{MAX_TAKEN, PIECE}
+use Rattle.ep_top.specs.declared.session.TheConstants.{MAX_TAKEN}
 use Rattle.ep_top.specs.Outside.{outside}
 use Rattle.ep_top.specs.Session.{Progress}
 use Rattle.ep_top.proofs.session.serve_stream.Given as goal

@@ -1,15 +1,13 @@
 -- A frame is answered by the connection alone, by the plain map, or by an unknown group.
-use Rattle.std.proofs.Common.{◌≡◌, ◌∙◌, ◌+◌, ◌++◌, ℕ, List, [], length, ap, sym, refl, arith, append-nil}
+use Rattle.std.proofs.Common.{◌≡◌, ◌∙◌, ◌++◌, ℕ, List, [], length, ap, sym, refl, arith, append-nil}
 use Rattle.ep_model.specs.History.{call_data}
 use Rattle.ep_model.specs.declared.status.TheConstants.{KEY_NOT_FOUND}
 use Rattle.mcbp_frame.specs.Frames.{frame_data}
 use Rattle.mcbp_ops.specs.Text.{status_text}
 use Rattle.conn_core.specs.declared.act.ActData.TheVariants as acts
-use Rattle.conn_core.specs.Acts.{own_text}
 use Rattle.conn_core.proofs.ActLemmas.{engine_silent, stat_silent, engine_features}
 use Rattle.ep_top.specs.declared.front.TheConstants.{VBUCKETS}
-use Rattle.ep_top.proofs.Fronts.{answered_call, answered_frame, sound_after_call}
-use Rattle.ep_top.proofs.Kept.{err_three}
+use Rattle.ep_top.proofs.Fronts.{answered_call, answered_frame, sound_after_call, err_three}
 use Rattle.ep_top.proofs.front.Front.serve.Goals as goal
 
 -- what was pending is pending still where the connection wrote nothing

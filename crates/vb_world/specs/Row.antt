@@ -1,15 +1,16 @@
--- How a stored history stands for events: its bytes lie in one row, and each event says where.
-use Rattle.std.specs.Prelude.{◌≡◌, ℕ, ◌+◌, ◌≤◌, List, [], ◌∷◌, ◌++◌, length, take, drop, map}
+-- How a row of memory stands for events: their bytes lie in it one behind the other, and each event says where.
+use Rattle.std.specs.Prelude.{◌≡◌, ℕ, ◌+◌, ◌-◌, ◌≤◌, List, ◌++◌, length, take, drop, map, vec_len, vec_capacity}
 use Rattle.std.specs.List.{AllByRecursion}
 use Rattle.ep_model.specs.declared.data.CallData.{CallData}
 use Rattle.ep_model.specs.declared.data.CallData.TheVariants as calls
 use Rattle.ep_model.specs.declared.data.EventData.{EventData}
 use Rattle.ep_model.specs.declared.data.EventData.TheVariants as events
-use Rattle.ep_top.specs.declared.history.Span.{Span}
-use Rattle.ep_top.specs.declared.history.KeptCall.{KeptCall}
-use Rattle.ep_top.specs.declared.history.KeptCall.TheVariants as kept
-use Rattle.ep_top.specs.declared.history.KeptEvent.{KeptEvent}
-use Rattle.ep_top.specs.declared.history.KeptEvent.TheVariants.{Opened, Called}
+use Rattle.vb_world.specs.declared.row.Span.{Span}
+use Rattle.vb_world.specs.declared.row.KeptCall.{KeptCall}
+use Rattle.vb_world.specs.declared.row.KeptCall.TheVariants as kept
+use Rattle.vb_world.specs.declared.row.KeptEvent.{KeptEvent}
+use Rattle.vb_world.specs.declared.row.KeptEvent.TheVariants.{Called, Refused, Expired, Persisted, Marked, Asked, ReadFailed, Opened}
+use Rattle.vb_world.specs.declared.row.Row.{Row}
 
 -- the bytes of a span
 abbrev pub spanned : List ℕ → Span → List ℕ
@@ -28,11 +29,25 @@ call_in bytes (kept.SetState state) = calls.SetState state
 call_in bytes kept.GetState = calls.GetState
 
 abbrev pub event_in : List ℕ → KeptEvent → EventData
-event_in bytes Opened = events.Opened
 event_in bytes (Called caller call now reply value) = events.Called caller (call_in bytes call) now reply (spanned bytes value)
+event_in bytes (Refused caller call now cause) = events.Refused caller (call_in bytes call) now cause
+event_in bytes (Expired key now) = events.Expired (spanned bytes key) now
+event_in bytes (Persisted number) = events.Persisted number
+event_in bytes (Marked stripe number) = events.Marked stripe number
+event_in bytes (Asked ticket caller call) = events.Asked ticket caller (call_in bytes call)
+event_in bytes (ReadFailed ticket fault) = events.ReadFailed ticket fault
+event_in bytes Opened = events.Opened
 
-abbrev pub events_in : List ℕ → List KeptEvent → List EventData
-events_in bytes kept_events = map (event_in bytes) kept_events
+-- an event with its vBucket
+abbrev pub pair_in : List ℕ → ℕ × KeptEvent → ℕ × EventData
+pair_in bytes p = (p.0, event_in bytes p.1)
+
+abbrev pub pairs_in : List ℕ → List (ℕ × KeptEvent) → List (ℕ × EventData)
+pairs_in bytes pairs = map (pair_in bytes) pairs
+
+-- the events of a row in order, each with its vBucket
+abbrev pub pairs_of : Row → List (ℕ × EventData)
+pairs_of row = pairs_in row.bytes.items row.events.items
 
 -- it lies within so many bytes
 abbrev pub IsInside : ℕ → Span → Type 0
@@ -51,11 +66,28 @@ IsCallInside n (kept.SetState state) = Unit {0}
 IsCallInside n kept.GetState = Unit {0}
 
 abbrev pub IsEventInside : ℕ → KeptEvent → Type 0
-IsEventInside n Opened = Unit {0}
 IsEventInside n (Called caller call now reply value) = IsCallInside n call × IsInside n value
+IsEventInside n (Refused caller call now cause) = IsCallInside n call
+IsEventInside n (Expired key now) = IsInside n key
+IsEventInside n (Persisted number) = Unit {0}
+IsEventInside n (Marked stripe number) = Unit {0}
+IsEventInside n (Asked ticket caller call) = IsCallInside n call
+IsEventInside n (ReadFailed ticket fault) = Unit {0}
+IsEventInside n Opened = Unit {0}
 
-abbrev pub AreInside : ℕ → List KeptEvent → Type 0
-AreInside n kept_events = AllByRecursion (IsEventInside n) kept_events
+abbrev pub AreInside : ℕ → List (ℕ × KeptEvent) → Type 0
+AreInside n pairs = AllByRecursion (λ (p : ℕ × KeptEvent). IsEventInside n p.1) pairs
+
+-- whatever an event of the row says lies in it
+abbrev pub IsWhole : Row → Type 0
+IsWhole row = AreInside (length row.bytes.items) row.events.items
+
+-- how many more events, and how many more bytes of them, the row takes without growing
+abbrev pub event_room : Row → ℕ
+event_room row = vec_capacity row.events - vec_len row.events
+
+abbrev pub byte_room : Row → ℕ
+byte_room row = vec_capacity row.bytes - vec_len row.bytes
 
 -- new is old with bytes behind it
 abbrev pub Extends : List ℕ → List ℕ → Type 0

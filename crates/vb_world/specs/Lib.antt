@@ -1,0 +1,4 @@
+pub mod Row
+pub mod History
+pub mod World
+pub mod Buckets

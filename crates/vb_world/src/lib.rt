@@ -1,0 +1,21 @@
+//! The vBuckets of a bucket for one thread: their parts, and their histories in one row of memory.
+#![tactic(auto)]
+
+mod data;
+mod history;
+mod origin;
+mod place;
+mod row;
+mod stage;
+mod world;
+
+pub use data::{BucketData, FixedData, WorldData};
+pub use history::History;
+pub use place::Place;
+pub use stage::WorldStage;
+pub use world::World;
+
+#[cfg(test)]
+mod tests;
+#[cfg(test)]
+mod world_tests;
