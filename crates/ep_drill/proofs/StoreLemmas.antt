@@ -1,0 +1,287 @@
+-- What a desk, a batch and a read are to a history, while other events are noted.
+use Rattle.std.proofs.Common.{◌≡◌, ◌<◌, ◌≤◌, ℕ, true, false, inl, inr, List, [], ◌∷◌, ◌++◌, refl, sym, ap, subst, ◌∙◌, arith}
+use Rattle.std.specs.Prelude.{Option, Some, None, ◌==◌, ◌||◌, ◌&&◌, not}
+use Rattle.std.specs.List.{AllByRecursion}
+use Rattle.std.specs.FinMap.{get}
+use Rattle.std.proofs.lemmas.Bool.Decides.{Decides-eqb}
+use Rattle.ep_model.specs.Needs.{key_of}
+use Rattle.ep_model.specs.declared.config.Eviction.TheVariants.{Value}
+use Rattle.ep_model.specs.declared.event.Ticket.{Ticket}
+use Rattle.ep_model.specs.declared.data.EventData.{EventData}
+use Rattle.ep_model.specs.declared.data.EventData.TheVariants as events
+use Rattle.ep_model.specs.declared.data.FrontData.{FrontData}
+use Rattle.ep_model.specs.World.{Doc, Docs, World}
+use Rattle.ep_model.specs.Answer.{Effect, Nothing, Puts, Sets, answer, apply}
+use Rattle.ep_model.specs.History.{step, upto}
+use Rattle.ep_model.specs.Front.{begun, started, world_of, with_event}
+use Rattle.ep_model.specs.Legal.{IsBelow, IsNoFault, HasAsked, May, IsLegal}
+use Rattle.hold_stage.specs.Touches.{is_desks}
+use Rattle.hold_stage.specs.Mutations.{mutation_of, mutations, above, laid_on, is_on, puts_on, is_ask, is_waiting, waits_after}
+use Rattle.hold_stage.proofs.Later.{world_step, all_append}
+use Rattle.hold_stage.proofs.Legality.{has_more, one_asker}
+use Rattle.hold_stage.proofs.Bounds.{legal_bounds, all_in, waiting_step}
+use Rattle.hold_stage.proofs.Mutations.{step_rises}
+use Rattle.hold_stage.proofs.Stored.{upto_last, laid_above, doc_upto}
+use Rattle.hold_stage.proofs.Mutations.{upto_append}
+use Rattle.kv_keeper.specs.declared.data.BatchData.{BatchData}
+use Rattle.kv_keeper.specs.Content.{Content}
+use Rattle.kv_keeper.specs.Batch.{laid}
+use Rattle.ep_drill.specs.declared.flat.data.QueueData.{QueueData}
+use Rattle.ep_drill.specs.declared.flat.data.FetchedData.{FetchedData}
+use Rattle.ep_drill.specs.declared.flat.data.FoundData.{FoundData}
+use Rattle.ep_drill.specs.declared.flat.data.FoundData.TheVariants as founds
+use Rattle.ep_drill.specs.Stands.{QueueStands, IsAbsent, IsFaultWithin, HoldsAt, ContentStands, DeskStands, BatchStands, FoundStands, FetchedStands}
+use Rattle.ep_drill.proofs.WaitLemmas.{and_left, and_right, not_true, docs_apart, waiting_low}
+
+-- numbers of a front, one event further
+pub high_rises : (f : FrontData) (event : EventData) → (world_of f).high ≤ (world_of (with_event f event)).high
+high_rises f event = let a = (step_rises (world_of f) event).low in let e = ap (λ (w : World). w.high) (world_step f event) in omega arith
+
+-- what was there at a number of a front is there at it later
+pub upto_step : (f : FrontData) (event : EventData) (number : ℕ) → (started f.start).high ≤ number → number ≤ (world_of f).high → upto (begun f) (with_event f event).events number ≡ upto (begun f) f.events number
+upto_step f event number low top = upto_append (begun f) f.events (event ∷ []) number low top
+
+persisted_apply : (w : World) (effect : Effect) → (apply w effect).persisted ≡ w.persisted
+persisted_apply w Nothing = refl
+persisted_apply w (Puts key doc) = refl
+persisted_apply w (Sets state) = refl
+
+-- an event that isn't the desk's leaves what is persisted, and tells of no failed read
+persisted_same : (w : World) (event : EventData) → is_desks event ≡ false → (step w event).persisted ≡ w.persisted
+unfolding is_desks
+persisted_same w (events.Called caller call now reply value) test = persisted_apply w (answer w call now).effect
+persisted_same w (events.Refused caller call now cause) test = refl
+persisted_same w (events.Expired key now) test = refl
+persisted_same w (events.Persisted number) test = absurd (cc)
+persisted_same w (events.Marked stripe number) test = refl
+persisted_same w (events.Asked ticket caller call) test = refl
+persisted_same w (events.ReadFailed ticket fault) test = absurd (cc)
+persisted_same w events.Opened test = absurd (cc)
+
+within_same : (faults : ℕ) (event : EventData) → is_desks event ≡ false → IsFaultWithin faults event
+unfolding is_desks
+within_same faults (events.Called caller call now reply value) test = tt
+within_same faults (events.Refused caller call now cause) test = tt
+within_same faults (events.Expired key now) test = tt
+within_same faults (events.Persisted number) test = tt
+within_same faults (events.Marked stripe number) test = tt
+within_same faults (events.Asked ticket caller call) test = tt
+within_same faults (events.ReadFailed ticket fault) test = absurd (cc)
+within_same faults events.Opened test = tt
+
+pub no_fault_same : (fault : ℕ) (event : EventData) → is_desks event ≡ false → IsNoFault fault event
+unfolding is_desks
+no_fault_same fault (events.Called caller call now reply value) test = tt
+no_fault_same fault (events.Refused caller call now cause) test = tt
+no_fault_same fault (events.Expired key now) test = tt
+no_fault_same fault (events.Persisted number) test = tt
+no_fault_same fault (events.Marked stripe number) test = tt
+no_fault_same fault (events.Asked ticket caller call) test = tt
+no_fault_same fault (events.ReadFailed ticket other) test = absurd (cc)
+no_fault_same fault events.Opened test = tt
+
+holds_later : (f : FrontData) (event : EventData) (content : Content) (number : ℕ) → (started f.start).high ≤ number → number ≤ (world_of f).high → HoldsAt f content number → HoldsAt (with_event f event) content number
+holds_later f event content number low top h =
+    let same = upto_step f event number low top in
+    record { docs = h.docs ∙ ap (λ (w : World). w.docs) (sym same); high = h.high; maxcas = h.maxcas ∙ ap (λ (w : World). w.maxcas) (sym same) }
+
+content_later : (f : FrontData) (event : EventData) (content : Content) (stored : ℕ) (doubt : Option ℕ) → (started f.start).high ≤ stored → stored ≤ (world_of f).high → ContentStands f content stored doubt → ContentStands (with_event f event) content stored doubt
+content_later f event content stored None low top h = holds_later f event content stored low top h
+content_later f event content stored (Some doubt) low top h =
+    let more = high_rises f event in let a = h.0 in let b = h.1 in
+    (a, omega arith, elim h.2 [ inl x ↦ inl (holds_later f event content stored low top x) | inr y ↦ inr (holds_later f event content doubt (omega arith) b y) ])
+
+-- a desk goes on standing while others note what isn't the desk's
+pub desk_keeps_standing : (f : FrontData) (event : EventData) (content : Content) (stored : ℕ) (doubt : Option ℕ) (noted faults : ℕ) → IsLegal f → is_desks event ≡ false → DeskStands f content stored doubt noted faults → DeskStands (with_event f event) content stored doubt noted faults
+desk_keeps_standing f event content stored doubt noted faults legal test d =
+    let p = ap (λ (w : World). w.persisted) (world_step f event) ∙ persisted_same (world_of f) event test in
+    let b = legal_bounds f legal in
+    let low = d.low in let start = b.start in
+    record {
+      low = omega arith;
+      top = let h = high_rises f event in let t = d.top in omega arith;
+      holds = content_later f event content stored doubt (omega arith) d.top d.holds;
+      persisted = d.persisted ∙ sym p;
+      told = all_append (IsFaultWithin faults) f.events (event ∷ []) d.told (within_same faults event test, tt);
+    }
+
+-- more faults than were told are enough
+within_more : (a b : ℕ) (event : EventData) → a ≤ b → IsFaultWithin a event → IsFaultWithin b event
+within_more a b (events.Called caller call now reply value) le h = tt
+within_more a b (events.Refused caller call now cause) le h = tt
+within_more a b (events.Expired key now) le h = tt
+within_more a b (events.Persisted number) le h = tt
+within_more a b (events.Marked stripe number) le h = tt
+within_more a b (events.Asked ticket caller call) le h = tt
+within_more a b (events.ReadFailed ticket fault) le h = (h.0, (let x = h.1 in omega arith))
+within_more a b events.Opened le h = tt
+
+all_within_more : (a b : ℕ) (list : List EventData) → a ≤ b → AllByRecursion (IsFaultWithin a) list → AllByRecursion (IsFaultWithin b) list
+all_within_more a b [] le h = tt
+all_within_more a b (event ∷ list) le h = (within_more a b event le h.0, all_within_more a b list le h.1)
+
+pub more_faults : (f : FrontData) (content : Content) (stored : ℕ) (doubt : Option ℕ) (noted a b : ℕ) → a ≤ b → DeskStands f content stored doubt noted a → DeskStands f content stored doubt noted b
+more_faults f content stored doubt noted a b le d = record { low = d.low; top = d.top; holds = d.holds; persisted = d.persisted; told = all_within_more a b f.events le d.told }
+
+-- the desk tells of a failed read
+pub desk_tells : (f : FrontData) (ticket : Ticket) (fault : ℕ) (content : Content) (stored : ℕ) (doubt : Option ℕ) (noted faults : ℕ) → IsLegal f → 1 ≤ fault → fault ≤ faults → DeskStands f content stored doubt noted faults
+    → DeskStands (with_event f (events.ReadFailed ticket fault)) content stored doubt noted faults
+desk_tells f ticket fault content stored doubt noted faults legal some within d =
+    let event = events.ReadFailed ticket fault in
+    let p = ap (λ (w : World). w.persisted) (world_step f event) in
+    let b = legal_bounds f legal in
+    let low = d.low in let start = b.start in
+    record {
+      low = omega arith;
+      top = let h = high_rises f event in let t = d.top in omega arith;
+      holds = content_later f event content stored doubt (omega arith) d.top d.holds;
+      persisted = d.persisted ∙ sym p;
+      told = all_append (IsFaultWithin faults) f.events (event ∷ []) d.told ((some, within), tt);
+    }
+
+opened_step : (w : World) (event : EventData) → w.opened ≡ true → (step w event).opened ≡ true
+opened_step w (events.Called caller call now reply value) h = at w (answer w call now).effect h
+  where
+    at : (w : World) (effect : Effect) → w.opened ≡ true → (apply w effect).opened ≡ true
+    at w Nothing h = h
+    at w (Puts key doc) h = h
+    at w (Sets state) h = h
+opened_step w (events.Refused caller call now cause) h = h
+opened_step w (events.Expired key now) h = h
+opened_step w (events.Persisted number) h = h
+opened_step w (events.Marked stripe number) h = h
+opened_step w (events.Asked ticket caller call) h = h
+opened_step w (events.ReadFailed ticket fault) h = h
+opened_step w events.Opened h = refl
+
+pub opened_stays : (f : FrontData) (event : EventData) → (world_of f).opened ≡ true → (world_of (with_event f event)).opened ≡ true
+opened_stays f event h = ap (λ (w : World). w.opened) (world_step f event) ∙ opened_step (world_of f) event h
+
+-- so does a batch, over the same store
+pub batch_keeps : (f : FrontData) (event : EventData) (stored : ℕ) (batch : BatchData) → (started f.start).high ≤ stored → BatchStands f stored batch → BatchStands (with_event f event) stored batch
+batch_keeps f event stored batch start b =
+    let low = b.low in let top = b.top in
+    let at = upto_step f event stored start (omega arith) in
+    let to = upto_step f event batch.to (omega arith) top in
+    record {
+      opened = opened_stays f event b.opened;
+      low = low;
+      top = let h = high_rises f event in omega arith;
+      docs = ap (λ (w : World). laid batch.rows w.docs) at ∙ b.docs ∙ ap (λ (w : World). w.docs) (sym to);
+      maxcas = b.maxcas ∙ ap (λ (w : World). w.maxcas) (sym to);
+    }
+
+-- a ticket isn't asked again
+not_again : (f : FrontData) (ticket : Ticket) (key : List ℕ) (event : EventData) → HasAsked f.events ticket → May f event → is_ask ticket key event ≡ true → ⊥
+unfolding May
+not_again f ticket key (events.Called caller call now reply value) asked may is = cc
+not_again f ticket key (events.Refused caller call now cause) asked may is = cc
+not_again f ticket key (events.Expired other now) asked may is = cc
+not_again f ticket key (events.Persisted number) asked may is = cc
+not_again f ticket key (events.Marked stripe number) asked may is = cc
+not_again f ticket key (events.Asked other caller call) asked may is =
+    let tests = and_left (other.stripe == ticket.stripe && other.number == ticket.number) (is_on key (key_of call)) is in
+    let same_stripe : other.stripe ≡ ticket.stripe = (Decides-eqb other.stripe ticket.stripe).0 (and_left (other.stripe == ticket.stripe) (other.number == ticket.number) tests) in
+    let same_number : other.number ≡ ticket.number = (Decides-eqb other.number ticket.number).0 (and_right (other.stripe == ticket.stripe) (other.number == ticket.number) tests) in
+    let below : ticket.number < other.number = all_in (IsBelow other) f.events asked.before asked.later (events.Asked ticket asked.caller asked.call) asked.asked may.above (sym same_stripe) in
+    absurd (omega arith)
+not_again f ticket key (events.ReadFailed other fault) asked may is = cc
+not_again f ticket key events.Opened asked may is = cc
+
+-- who waits behind an event waited before, and the event left its document
+waited : (f : FrontData) (ticket : Ticket) (key : List ℕ) (event : EventData) → HasAsked f.events ticket → May f event → is_waiting (with_event f event) ticket key ≡ true
+    → (is_waiting f ticket key ≡ true) × (get (world_of (with_event f event)).docs key ≡ get (world_of f).docs key)
+waited f ticket key event asked may is =
+    let now : waits_after ticket key (is_waiting f ticket key) (world_of f) event ≡ true = sym (waiting_step f ticket key event) ∙ is in
+    elim (is_ask ticket key event) as (λ b. is_ask ticket key event ≡ b → (b || (is_waiting f ticket key && not (puts_on key (mutation_of (world_of f) event)))) ≡ true → (is_waiting f ticket key ≡ true) × (get (world_of (with_event f event)).docs key ≡ get (world_of f).docs key)) [
+      | true ↦ λ asks _. absurd (not_again f ticket key event asked may asks)
+      | false ↦ λ _ both. (
+        and_left (is_waiting f ticket key) _ both,
+        docs_apart f event key (not_true _ (and_right (is_waiting f ticket key) (not (puts_on key (mutation_of (world_of f) event))) both)),
+      )
+    ] refl now
+
+-- the event tells of no failed read that this one has still to tell
+abbrev pub IsApart : FoundData → EventData → Type 0
+IsApart (founds.Row doc) event = Unit {0}
+IsApart founds.Absent event = Unit {0}
+IsApart (founds.Failed fault) event = IsNoFault fault event
+IsApart founds.NoMemory event = Unit {0}
+
+found_keeps : (f : FrontData) (event : EventData) (ticket : Ticket) (found : FoundData) → HasAsked f.events ticket → May f event → IsApart found event → FoundStands f ticket found → FoundStands (with_event f event) ticket found
+found_keeps f event ticket (founds.Row doc) asked may apart h = λ key is. let w = waited f ticket key event asked may is in w.1 ∙ h key w.0
+found_keeps f event ticket founds.Absent asked may apart h = λ key is. let w = waited f ticket key event asked may is in subst IsAbsent (sym w.1) (h key w.0)
+found_keeps f event ticket (founds.Failed fault) asked may apart h = all_append (IsNoFault fault) f.events (event ∷ []) h (apart, tt)
+found_keeps f event ticket founds.NoMemory asked may apart h = tt
+
+pub fetched_keeps : (f : FrontData) (event : EventData) (fetched : FetchedData) → May f event → IsApart fetched.found event → FetchedStands f fetched → FetchedStands (with_event f event) fetched
+fetched_keeps f event fetched may apart r = record {
+  asked = record { before = r.asked.before; later = r.asked.later ++ event ∷ []; caller = r.asked.caller; call = r.asked.call; asked = has_more f.events r.asked.before r.asked.later (events.Asked fetched.ticket r.asked.caller r.asked.call) event r.asked.asked };
+  keyed = r.keyed;
+  found = found_keeps f event fetched.ticket fetched.found r.asked may apart r.found;
+}
+
+-- at a ticket one key waits
+pub one_key : (f : FrontData) (ticket : Ticket) (a b : List ℕ) → IsLegal f → f.config.eviction ≡ Value → is_waiting f ticket a ≡ true → is_waiting f ticket b ≡ true → a ≡ b
+one_key f ticket a b legal eviction p q =
+    let x = waiting_low f ticket a legal eviction p in
+    let y = waiting_low f ticket b legal eviction q in
+    let calls = (one_asker f ticket x.caller y.caller x.call y.call x.before y.before x.later y.later legal x.asked y.asked).1 in
+    let keys : Some a ≡ Some b = sym x.keyed ∙ ap key_of calls ∙ y.keyed in
+    cc
+
+-- what the store holds of a key that waits is its document
+pub waiting_stored : (f : FrontData) (ticket : Ticket) (key : List ℕ) (content : Content) (stored noted faults : ℕ) → IsLegal f → f.config.eviction ≡ Value → DeskStands f content stored None noted faults → is_waiting f ticket key ≡ true
+    → (doc : Doc) × (get content.docs key ≡ Some doc) × (get (world_of f).docs key ≡ Some doc) × (doc.deleted ≡ false)
+waiting_stored f ticket key content stored noted faults legal eviction d is =
+    let l = waiting_low f ticket key legal eviction is in
+    let b = legal_bounds f legal in
+    let m = b.marked ticket.stripe in let low = l.low in let s = d.low in
+    (l.doc, ap (λ (docs : Docs). get docs key) d.holds.docs ∙ doc_upto (begun f) f.events stored key l.doc l.found (omega arith), l.found, l.stays)
+
+-- What is to be stored makes a batch that stands.
+pub batch_taken : (f : FrontData) (q : QueueData) (batch : BatchData) (stored : ℕ) → IsLegal f → QueueStands f q → (world_of f).opened ≡ true → stored ≡ (world_of f).persisted → stored < q.high → batch.to ≡ q.high → batch.maxcas ≡ q.maxcas
+    → ((docs : Docs) → laid batch.rows docs ≡ laid_on docs q.items) → BatchStands f stored batch
+batch_taken f q batch stored legal s opened is more to maxcas laid-is =
+    let b = legal_bounds f legal in
+    let start = b.start in let within = b.stored in
+    let last = upto_last (begun f) f.events in
+    let at : batch.to ≡ (world_of f).high = to ∙ s.high in
+    record {
+      opened = opened;
+      low = let e = to in omega arith;
+      top = omega arith;
+      docs =
+          laid-is (upto (begun f) f.events stored).docs
+          ∙ ap (λ (l : List (List ℕ × Doc)). laid_on (upto (begun f) f.events stored).docs l) (s.items ∙ ap (λ n. above n (mutations (begun f) f.events)) (sym is))
+          ∙ laid_above (begun f) f.events stored (omega arith) (omega arith)
+          ∙ last.docs ∙ ap (λ n. (upto (begun f) f.events n).docs) (sym at);
+      maxcas = maxcas ∙ s.maxcas ∙ last.maxcas ∙ ap (λ n. (upto (begun f) f.events n).maxcas) (sym at);
+    }
+
+-- the key of a read is that of whoever waits at its ticket
+pub fetched_key : (f : FrontData) (fetched : FetchedData) (key : List ℕ) → IsLegal f → f.config.eviction ≡ Value → FetchedStands f fetched → is_waiting f fetched.ticket key ≡ true → key ≡ fetched.key
+fetched_key f fetched key legal eviction r is =
+    let x = waiting_low f fetched.ticket key legal eviction is in
+    let calls = (one_asker f fetched.ticket x.caller r.asked.caller x.call r.asked.call x.before r.asked.before x.later r.asked.later legal x.asked r.asked.asked).1 in
+    let keys : Some key ≡ Some fetched.key = sym x.keyed ∙ ap key_of calls ∙ r.keyed in
+    cc
+
+-- whoever waits at a ticket asked there
+pub fetched_any : (f : FrontData) (ticket : Ticket) (key : List ℕ) (fetched : FetchedData) → IsLegal f → f.config.eviction ≡ Value → is_waiting f ticket key ≡ true → fetched.ticket ≡ ticket → fetched.key ≡ key
+    → FoundStands f fetched.ticket fetched.found → FetchedStands f fetched
+fetched_any f ticket key fetched legal eviction is t k found =
+    let l = waiting_low f ticket key legal eviction is in
+    record {
+      asked = record { before = l.before; later = l.later; caller = l.caller; call = l.call; asked = l.asked ∙ ap (λ (x : Ticket). l.before ++ events.Asked x l.caller l.call ∷ l.later) (sym t) };
+      keyed = l.keyed ∙ ap Some (sym k);
+      found = found;
+    }
+
+-- a read of the store for whoever waits at a ticket stands
+pub fetched_row : (f : FrontData) (ticket : Ticket) (key : List ℕ) (doc : Doc) (fetched : FetchedData) → IsLegal f → f.config.eviction ≡ Value → is_waiting f ticket key ≡ true → get (world_of f).docs key ≡ Some doc
+    → fetched.ticket ≡ ticket → fetched.key ≡ key → fetched.found ≡ founds.Row doc → FetchedStands f fetched
+fetched_row f ticket key doc fetched legal eviction is found t k r =
+    fetched_any f ticket key fetched legal eviction is t k
+    (subst (λ (o : FoundData). FoundStands f fetched.ticket o) (sym r) (λ other waits.
+    ap (λ (l : List ℕ). get (world_of f).docs l) (one_key f ticket other key legal eviction (subst (λ (x : Ticket). is_waiting f x other ≡ true) t waits) is) ∙ found))

@@ -1,0 +1,122 @@
+-- What the work at a stage of one vBucket leaves of its bench.
+use Rattle.std.proofs.Common.{◌≡◌, ◌<◌, ℕ, zero, suc, false, List, [], ◌∷◌, map, refl, sym, ap, subst, ◌∙◌, slice_set}
+use Rattle.std.specs.Prelude.{Option, Some, None, IfSome}
+use Rattle.std.specs.Option.{option_map}
+use Rattle.ep_model.specs.declared.config.Config.{Config}
+use Rattle.ep_model.specs.declared.data.EventData.{EventData}
+use Rattle.ep_model.specs.declared.data.EventData.TheVariants as events
+use Rattle.ep_model.specs.declared.data.FrontData.{FrontData}
+use Rattle.ep_model.specs.Legal.{IsLegal}
+use Rattle.hold_stage.specs.Touches.{is_call, is_desks}
+use Rattle.kv_keeper.specs.declared.data.BatchData.{BatchData}
+use Rattle.kv_keeper.specs.declared.data.DeskData.{DeskData}
+use Rattle.kv_keeper.specs.Memory.{MemoryData}
+use Rattle.vb_world.specs.declared.data.FixedData.{FixedData}
+use Rattle.vb_world.specs.declared.data.WorldData.{WorldData}
+use Rattle.vb_world.specs.World.{front_in, part_in, fixed_in, Sound}
+use Rattle.ep_drill.specs.declared.data.BenchData.{BenchData}
+use Rattle.ep_drill.specs.declared.fetched.Fetched.{Fetched}
+use Rattle.ep_drill.specs.declared.flat.data.FetchedData.{FetchedData}
+use Rattle.ep_drill.specs.declared.part.Part.{Part}
+use Rattle.ep_drill.specs.declared.store.Marking.{Marking}
+use Rattle.ep_drill.specs.declared.store.Marking.TheVariants as markings
+use Rattle.ep_drill.specs.Parts.{part_stands}
+use Rattle.ep_drill.specs.Calls.{noted, AreHome}
+use Rattle.ep_drill.specs.Answers.{IsMarked, IsTaken}
+use Rattle.ep_drill.specs.Fetches.{fetched_data, DeskRead, IsRead}
+use Rattle.ep_drill.specs.Stands.{BatchStands}
+use Rattle.ep_drill.specs.Core.{BenchStands, Ready, Moved, Worked}
+use Rattle.ep_drill.proofs.BenchLemmas.{bench_noted, bench_taken, bench_asked, bench_read}
+use Rattle.ep_drill.proofs.WorkedLemmas.{moved_with_room, worked_by}
+
+-- what a replaced element of a list comes to
+map_set : {A B : Type 0} (f : A → B) (xs : List A) (n : ℕ) (x : A) → map f (slice_set xs n x) ≡ slice_set (map f xs) n (f x)
+map_set f [] n x = refl
+map_set f (y ∷ xs) zero x = refl
+map_set {B = B} f (y ∷ xs) (suc n) x = ap (λ (l : List B). f y ∷ l) (map_set f xs n x)
+
+-- The stage begins at the world `a`, and what is done there notes nothing.
+module _ (a s z : WorldData Part) (vb sv zv : ℕ) (w : s ≡ a) (at : sv ≡ vb) (fixed : fixed_in z zv ≡ fixed_in s sv) (front : front_in z zv ≡ front_in s sv) where
+  -- the stage's history is the vBucket's
+  pub front_begun : front_in s sv ≡ front_in a vb
+  front_begun = ap (λ (k : ℕ). front_in s k) at ∙ ap (λ (k : WorldData Part). front_in k vb) w
+
+  -- and it is the same at the end
+  pub front_still : front_in z vb ≡ front_in a vb
+  front_still =
+      let v : zv ≡ vb = ap (λ (k : FixedData Part). k.vb) fixed ∙ at in
+      ap (λ (k : ℕ). front_in z k) (sym v) ∙ front ∙ front_begun
+
+  pub bench_still : (bench : BenchData) → BenchStands (front_in a vb) bench → BenchStands (front_in z vb) bench
+  bench_still bench b = subst (λ (f : FrontData). BenchStands f bench) (sym front_still) b
+
+  -- a batch was taken
+  pub taken_some : (bench : BenchData) (taken : Option BatchData) (batch : BatchData) → BenchStands (front_in a vb) bench → bench.desk.doubt ≡ None → taken ≡ Some batch → IsTaken (front_in s sv) bench.desk.stored taken
+      → BenchStands (front_in z vb) (record bench { batch = Some batch })
+  taken_some bench taken batch b sure is stands =
+      let here : IsTaken (front_in s sv) bench.desk.stored (Some batch) = subst (λ (o : Option BatchData). IsTaken (front_in s sv) bench.desk.stored o) is stands in
+      bench_still (record bench { batch = Some batch }) (bench_taken (front_in a vb) bench (Some batch) b sure (subst (λ (f : FrontData). BatchStands f bench.desk.stored batch) front_begun here))
+
+  -- or all was stored
+  pub taken_none : (bench : BenchData) → BenchStands (front_in a vb) bench → bench.desk.doubt ≡ None → BenchStands (front_in z vb) (record bench { batch = None })
+  taken_none bench b sure = bench_still (record bench { batch = None }) (bench_taken (front_in a vb) bench None b sure tt)
+
+  -- the store was read, or was asked to be, and nothing came of it
+  pub read_none : (bench : BenchData) (now : DeskData MemoryData) → BenchStands (front_in a vb) bench → DeskRead bench.desk.keeper.content (Some now.keeper.content) bench.desk now
+      → BenchStands (front_in z vb) (record bench { desk = now })
+  read_none bench now b read = bench_still (record bench { desk = now }) (bench_asked (front_in a vb) bench now b read)
+
+  -- A document was read for a stripe. What was read before and isn't merged is dropped.
+  pub read_some : (desk now : DeskData MemoryData) (batch : Option BatchData) (reads : List (Option Fetched)) (read : Option Fetched) (fetched : Fetched) (config : Config) (stripe index : ℕ)
+      → BenchStands (front_in a vb) (record { desk = desk; batch = batch; reads = map (option_map fetched_data) reads }) → a.config ≡ config → stripe < config.stripes → index ≡ stripe
+      → DeskRead desk.keeper.content (Some now.keeper.content) desk now → read ≡ Some fetched → IsRead (front_in s sv) stripe desk.read_faults now.read_faults read
+      → BenchStands (front_in z vb) (record { desk = now; batch = batch; reads = map (option_map fetched_data) (slice_set reads index (Some fetched)) })
+  read_some desk now batch reads read fetched config stripe index b layout there is told one stands =
+      let before : BenchData = record { desk = desk; batch = batch; reads = map (option_map fetched_data) reads } in
+      let within : stripe < a.config.stripes = subst (λ (k : Config). stripe < k.stripes) (sym layout) there in
+      let at-stage : IsRead (front_in s sv) stripe desk.read_faults now.read_faults (Some fetched) = subst (λ (o : Option Fetched). IsRead (front_in s sv) stripe desk.read_faults now.read_faults o) one stands in
+      let here : IsRead (front_in a vb) stripe desk.read_faults now.read_faults (Some fetched) = subst (λ (f : FrontData). IsRead f stripe desk.read_faults now.read_faults (Some fetched)) front_begun at-stage in
+      let after = bench_read (front_in a vb) before now stripe (fetched_data fetched) b within told here.0 here.1 here.2 in
+      let same : slice_set (map (option_map fetched_data) reads) stripe (Some (fetched_data fetched)) ≡ map (option_map fetched_data) (slice_set reads index (Some fetched)) =
+      sym (map_set (option_map fetched_data) reads stripe (Some fetched)) ∙ ap (λ (n : ℕ). map (option_map fetched_data) (slice_set reads n (Some fetched))) (sym is) in
+      bench_still (record { desk = now; batch = batch; reads = map (option_map fetched_data) (slice_set reads index (Some fetched)) })
+      (subst (λ (l : List (Option FetchedData)). BenchStands (front_in a vb) (record { desk = now; batch = batch; reads = l })) same after)
+
+-- what is noted where a stripe is told what is stored
+abbrev mark_event : ℕ → ℕ → Marking → Option EventData
+mark_event stripe number markings.Idle = None
+mark_event stripe number (markings.Raised other) = Some (events.Marked stripe number)
+
+mark_noted : (f g : FrontData) (stripe number : ℕ) (marking : Marking) → IsMarked f g stripe number marking → g ≡ noted f (mark_event stripe number marking)
+mark_noted f g stripe number markings.Idle is = is.1
+mark_noted f g stripe number (markings.Raised other) is = is.1
+
+-- it is no event of a call
+mark_quiet : (stripe number : ℕ) (marking : Marking) → IfSome (mark_event stripe number marking) (λ e. is_call e ≡ false)
+unfolding is_call
+mark_quiet stripe number markings.Idle = tt
+mark_quiet stripe number (markings.Raised other) = refl
+
+-- and none of the desk's
+mark_not_desks : (stripe number : ℕ) (marking : Marking) → IfSome (mark_event stripe number marking) (λ e. is_desks e ≡ false)
+unfolding is_desks
+mark_not_desks stripe number markings.Idle = tt
+mark_not_desks stripe number (markings.Raised other) = refl
+
+-- The stage begins at the world `r`, which is the world `a` with other room, and a stripe is told there what is stored.
+module _ (config : Config) (a r s z : WorldData Part) (vb sv zv n m stripe number : ℕ) (marking : Marking) (ready : Ready config a) (within : vb < config.vbuckets) (room : r ≡ record a { event_room = n; byte_room = m })
+    (w : s ≡ r) (at : sv ≡ vb) (fixed : fixed_in z zv ≡ fixed_in s sv) (home : AreHome (front_in s sv).config (part_in z zv)) (is : IsMarked (front_in s sv) (front_in z zv) stripe number marking) where
+  mark_moved : Moved config vb (mark_event stripe number marking) a z
+  mark_moved = moved_with_room config a r s z vb sv zv (mark_event stripe number marking) (mark_event stripe number marking) n m ready within room w at fixed home (mark_noted (front_in s sv) (front_in z zv) stripe number marking is) refl
+
+  pub mark_worked : Worked config vb a z
+  mark_worked = worked_by config a z vb (mark_event stripe number marking) mark_moved (mark_quiet stripe number marking)
+
+  -- the bench stands on
+  pub mark_bench : (bench : BenchData) → Sound part_stands r → Sound part_stands z → BenchStands (front_in a vb) bench → BenchStands (front_in z vb) bench
+  mark_bench bench before after b =
+      let event = mark_event stripe number marking in
+      let same : front_in r vb ≡ front_in a vb = ap (λ (k : WorldData Part). front_in k vb) room in
+      let old : IsLegal (front_in a vb) = subst (λ (f : FrontData). IsLegal f) same (before.legal vb) in
+      let new : IsLegal (noted (front_in a vb) event) = subst (λ (f : FrontData). IsLegal f) mark_moved.front (after.legal vb) in
+      subst (λ (f : FrontData). BenchStands f bench) (sym mark_moved.front) (bench_noted (front_in a vb) event bench old new (mark_not_desks stripe number marking) b)

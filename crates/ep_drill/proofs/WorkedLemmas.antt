@@ -1,0 +1,58 @@
+-- What a step at a stage of one vBucket does to the whole world.
+use Rattle.std.proofs.Common.{◌≡◌, ◌<◌, ℕ, refl, ap, subst, ◌∙◌}
+use Rattle.std.specs.Prelude.{List, Option, None, IfSome, false, Result, Ok, Err, IfOk, OnErr}
+use Rattle.ep_model.specs.declared.config.Config.{Config}
+use Rattle.ep_model.specs.declared.data.CallData.{CallData}
+use Rattle.ep_model.specs.declared.data.EventData.{EventData}
+use Rattle.ep_model.specs.declared.data.FrontData.{FrontData}
+use Rattle.hold_stage.specs.Touches.{is_call}
+use Rattle.vb_world.specs.declared.data.FixedData.{FixedData}
+use Rattle.vb_world.specs.declared.data.WorldData.{WorldData}
+use Rattle.vb_world.specs.World.{front_in, part_in, fixed_in}
+use Rattle.ep_model.specs.declared.event.Ticket.{Ticket}
+use Rattle.ep_drill.specs.declared.flat.data.Step.{Step}
+use Rattle.ep_drill.specs.declared.part.Part.{Part}
+use Rattle.ep_drill.specs.Calls.{event_of, noted, AreHome}
+use Rattle.ep_drill.specs.Core.{Ready, Moved, Worked}
+use Rattle.ep_drill.proofs.WorldLemmas.{moved_by, moved_room}
+
+moved_from : (config : Config) (a r z : WorldData Part) (vb : ℕ) (event : Option EventData) → Moved config vb None a r → vb < config.vbuckets → fixed_in z vb ≡ fixed_in r vb → AreHome r.config (part_in z vb)
+    → front_in z vb ≡ noted (front_in r vb) event → Moved config vb event a z
+moved_from config a r z vb event before within fixed home front =
+    let moved = moved_by config r z vb event before.ready within fixed (subst (λ (k : Config). AreHome k (part_in z vb)) before.ready.layout home) front in
+    record { ready = moved.ready; front = moved.front ∙ ap (λ (f : FrontData). noted f event) before.front; others = λ u differ. moved.others u differ ∙ before.others u differ }
+
+module _ (config : Config) (a r s z : WorldData Part) (vb sv zv : ℕ) (event other : Option EventData) where
+  moved_by_stage : Moved config vb None a r → vb < config.vbuckets → s ≡ r → sv ≡ vb → fixed_in z zv ≡ fixed_in s sv → AreHome (front_in s sv).config (part_in z zv) → front_in z zv ≡ noted (front_in s sv) other → other ≡ event → Moved config vb event a z
+  moved_by_stage before within w at fixed home front same =
+      let v : zv ≡ vb = ap (λ (k : FixedData Part). k.vb) fixed ∙ at in
+      moved_from config a r z vb event before within
+      (subst (λ (k : WorldData Part). fixed_in z vb ≡ fixed_in k vb) w (subst (λ k. fixed_in z vb ≡ fixed_in s k) at (subst (λ k. fixed_in z k ≡ fixed_in s sv) v fixed)))
+      (subst (λ (k : WorldData Part). AreHome k.config (part_in z vb)) w (subst (λ k. AreHome s.config (part_in z k)) v home))
+      (subst (λ (e : Option EventData). front_in z vb ≡ noted (front_in r vb) e) same
+      (subst (λ (k : WorldData Part). front_in z vb ≡ noted (front_in k vb) other) w (subst (λ k. front_in z vb ≡ noted (front_in s k) other) at (subst (λ k. front_in z k ≡ noted (front_in s sv) other) v front))))
+
+  -- A step at a stage that began at the world `r`, which is the world `a` with other room.
+  pub moved_with_room : (n m : ℕ) → Ready config a → vb < config.vbuckets → r ≡ record a { event_room = n; byte_room = m } → s ≡ r → sv ≡ vb
+      → fixed_in z zv ≡ fixed_in s sv → AreHome (front_in s sv).config (part_in z zv) → front_in z zv ≡ noted (front_in s sv) other → other ≡ event → Moved config vb event a z
+  moved_with_room n m ready within room = moved_by_stage (moved_room config a r vb n m ready room) within
+
+-- A step at a stage that began at the world itself.
+pub moved_still : (config : Config) (a s z : WorldData Part) (vb sv zv : ℕ) → Ready config a → vb < config.vbuckets → s ≡ a → sv ≡ vb
+    → fixed_in z zv ≡ fixed_in s sv → AreHome (front_in s sv).config (part_in z zv) → front_in z zv ≡ front_in s sv → Moved config vb None a z
+moved_still config a s z vb sv zv ready within w at fixed home front =
+    moved_by_stage config a a s z vb sv zv None None (record { ready = ready; front = refl; others = λ u differ. refl }) within w at fixed home front refl
+
+-- What a call came to is noted, and where memory was wanting nothing is.
+pub tried_at : {E : Type 0} (config : Config) (a r s z : WorldData Part) (vb sv zv n m number caller now : ℕ) (call spoken : CallData) (prior : Option Ticket) (value : List ℕ) (result : Result Step E)
+    → Ready config a → vb < config.vbuckets → r ≡ record a { event_room = n; byte_room = m } → s ≡ r → sv ≡ vb → caller ≡ number → spoken ≡ call → fixed_in z zv ≡ fixed_in s sv → AreHome (front_in s sv).config (part_in z zv)
+    → IfOk result (λ step. front_in z zv ≡ noted (front_in s sv) (event_of caller spoken now prior value step)) → OnErr result (front_in z zv ≡ front_in s sv)
+    → (IfOk result (λ step. Moved config vb (event_of number call now prior value step) a z)) × OnErr result (Moved config vb None a z)
+tried_at config a r s z vb sv zv n m number caller now call spoken prior value (Ok step) ready within room w at is same fixed home ok err =
+    (moved_with_room config a r s z vb sv zv (event_of number call now prior value step) (event_of caller spoken now prior value step) n m ready within room w at fixed home ok (ap (λ k. event_of k spoken now prior value step) is ∙ ap (λ (k : CallData). event_of number k now prior value step) same), tt)
+tried_at config a r s z vb sv zv n m number caller now call spoken prior value (Err e) ready within room w at is same fixed home ok err =
+    (tt, moved_with_room config a r s z vb sv zv None None n m ready within room w at fixed home err refl)
+
+-- a step that notes no call
+pub worked_by : (config : Config) (a b : WorldData Part) (vb : ℕ) (event : Option EventData) → Moved config vb event a b → IfSome event (λ e. is_call e ≡ false) → Worked config vb a b
+worked_by config a b vb event moved quiet = record { event = event; moved = moved; quiet = quiet }

@@ -1,0 +1,52 @@
+use Rattle.std.proofs.Common.{rules, ◌≡◌, ◌<◌, length, slice_get, Some, refl}
+use Rattle.std.specs.Vec.{vec_len}
+use Rattle.ep_drill.proofs.TurnLemmas.{turned_at, caller_of, lent_at}
+use Rattle.ep_drill.proofs.engine.Core.front.Goals as goal
+
+pub try_next-tried-requires-clause-stands : goal.try_next-tried-requires-clause-stands
+try_next-tried-requires-clause-stands c =
+    let o = c.self.inside in
+    let count : vec_len o.callers ≡ length o.callers.items = search rules in
+    let within : c.from.result < vec_len o.callers = c.in-Some.ensures.variant.0 refl in
+    let at : slice_get o.callers.items c.from.result ≡ Some c.in-Some.caller.now = lent_at o.callers.items (vec_len o.callers) c.from.result c.in-Some.caller.now count within c.in-Some.ensures.value in
+    (caller_of o.config o.world o.benches.items o.callers.items c.from.result c.from-2.result c.args.number c.in-Some.caller.now c.from.ensures c.from-2.ensures c.self.invariant.0 at).0
+
+pub try_next-tried-requires-clause-loaded : goal.try_next-tried-requires-clause-loaded
+try_next-tried-requires-clause-loaded c =
+    let o = c.self.inside in
+    let count : vec_len o.callers ≡ length o.callers.items = search rules in
+    let within : c.from.result < vec_len o.callers = c.in-Some.ensures.variant.0 refl in
+    let at : slice_get o.callers.items c.from.result ≡ Some c.in-Some.caller.now = lent_at o.callers.items (vec_len o.callers) c.from.result c.in-Some.caller.now count within c.in-Some.ensures.value in
+    (caller_of o.config o.world o.benches.items o.callers.items c.from.result c.from-2.result c.args.number c.in-Some.caller.now c.from.ensures c.from-2.ensures c.self.invariant.0 at).1
+
+pub invariant_of-self-2 : goal.invariant_of-self-2
+invariant_of-self-2 c =
+    let o = c.self.inside in
+    let t = c.try_next-tried in
+    let count : vec_len o.callers ≡ length o.callers.items = search rules in
+    let within : c.from.result < vec_len o.callers = c.in-Some.ensures.variant.0 refl in
+    let at : slice_get o.callers.items c.from.result ≡ Some c.in-Some.caller.now = lent_at o.callers.items (vec_len o.callers) c.from.result c.in-Some.caller.now count within c.in-Some.ensures.value in (
+      (turned_at c.args.self.now o.config o.world t.new.world o.benches.items o.callers.items c.from.result c.from-2.result c.args.number c.args.now c.in-Some.caller.now t.new.caller t.new.value.bytes t.result
+          c.self.view_is c.from.ensures c.from-2.ensures c.self.invariant.0 at t.ensures.ok t.ensures.err t.ensures.sound).0,
+      t.ensures.value,
+    )
+
+pub returns-clause-interleaves : goal.returns-clause-interleaves
+returns-clause-interleaves c =
+    let o = c.self.inside in
+    let t = c.try_next-tried in
+    let count : vec_len o.callers ≡ length o.callers.items = search rules in
+    let within : c.from.result < vec_len o.callers = c.in-Some.ensures.variant.0 refl in
+    let at : slice_get o.callers.items c.from.result ≡ Some c.in-Some.caller.now = lent_at o.callers.items (vec_len o.callers) c.from.result c.in-Some.caller.now count within c.in-Some.ensures.value in
+    (turned_at c.args.self.now o.config o.world t.new.world o.benches.items o.callers.items c.from.result c.from-2.result c.args.number c.args.now c.in-Some.caller.now t.new.caller t.new.value.bytes t.result
+    c.self.view_is c.from.ensures c.from-2.ensures c.self.invariant.0 at t.ensures.ok t.ensures.err t.ensures.sound).0
+
+pub returns-clause-goes_on : goal.returns-clause-goes_on
+returns-clause-goes_on c =
+    let o = c.self.inside in
+    let t = c.try_next-tried in
+    let count : vec_len o.callers ≡ length o.callers.items = search rules in
+    let within : c.from.result < vec_len o.callers = c.in-Some.ensures.variant.0 refl in
+    let at : slice_get o.callers.items c.from.result ≡ Some c.in-Some.caller.now = lent_at o.callers.items (vec_len o.callers) c.from.result c.in-Some.caller.now count within c.in-Some.ensures.value in
+    (turned_at c.args.self.now o.config o.world t.new.world o.benches.items o.callers.items c.from.result c.from-2.result c.args.number c.args.now c.in-Some.caller.now t.new.caller t.new.value.bytes t.result
+    c.self.view_is c.from.ensures c.from-2.ensures c.self.invariant.0 at t.ensures.ok t.ensures.err t.ensures.sound).1

@@ -1,0 +1,50 @@
+use Rattle.std.proofs.Common.{rules, ◌≡◌, Some, ℕ, List, slice_get, sym, subst}
+use Rattle.ep_drill.specs.Core.{bench_data, core_data, Interleaves, GoesOn, BenchStands, Worked}
+use Rattle.vb_world.specs.World.{front_in}
+use Rattle.ep_drill.specs.declared.bench.Bench.{Bench}
+use Rattle.ep_drill.specs.declared.data.CoreData.{CoreData}
+use Rattle.ep_drill.proofs.EngineLemmas.{lent_at, bench_of, benched_world}
+use Rattle.ep_drill.proofs.engine.Core.mark.Goals as goal
+
+-- src/engine.rt:122:15
+pub mark_at-requires-clause-bench : goal.mark_at-requires-clause-bench
+mark_at-requires-clause-bench c =
+    let i : Interleaves (core_data c.self.inside.config c.self.inside.world c.self.inside.benches.items c.self.inside.callers.items) = c.self.invariant.0 in
+    let at : slice_get c.self.inside.benches.items c.from.result ≡ Some c.in-Some.bench.now = subst (λ (l : List Bench). slice_get l c.from.result ≡ Some c.in-Some.bench.now) c.deref.ensures.value
+    (lent_at c.deref.result.now c.from.result c.in-Some.bench.now c.in-Some.ensures.lookup.3.0 c.in-Some.ensures.lookup.1) in
+    let same : c.from.result ≡ c.args.vb = search rules in
+    subst (λ (k : ℕ). BenchStands (front_in c.self.inside.world k) (bench_data c.in-Some.bench.now)) same
+    (bench_of c.self.inside.config c.self.inside.world c.self.inside.benches.items c.self.inside.callers.items c.from.result c.in-Some.bench.now i at).0
+
+-- src/engine.rt:112:5
+pub invariant_of-self : goal.invariant_of-self
+invariant_of-self c =
+    let i : Interleaves (core_data c.self.inside.config c.self.inside.world c.self.inside.benches.items c.self.inside.callers.items) = c.self.invariant.0 in
+    let at : slice_get c.self.inside.benches.items c.from.result ≡ Some c.in-Some.bench.now = subst (λ (l : List Bench). slice_get l c.from.result ≡ Some c.in-Some.bench.now) c.deref.ensures.value
+    (lent_at c.deref.result.now c.from.result c.in-Some.bench.now c.in-Some.ensures.lookup.3.0 c.in-Some.ensures.lookup.1) in
+    let same : c.from.result ≡ c.args.vb = search rules in
+    let m = benched_world c.self.inside.config c.self.inside.world c.mark_at.new.world c.self.inside.benches.items c.self.inside.callers.items c.from.result c.in-Some.bench.now i at
+    (subst (λ (k : ℕ). Worked c.self.inside.config k c.self.inside.world c.mark_at.new.world) (sym same) c.mark_at.ensures.worked) c.mark_at.ensures.sound (subst (λ (k : ℕ). BenchStands (front_in c.mark_at.new.world k) (bench_data c.in-Some.bench.now)) (sym same) c.mark_at.ensures.bench) in
+    (m.0, c.self.invariant.1)
+
+-- src/engine.rt:112:5
+pub returns-clause-interleaves : goal.returns-clause-interleaves
+returns-clause-interleaves c =
+    let i : Interleaves (core_data c.self.inside.config c.self.inside.world c.self.inside.benches.items c.self.inside.callers.items) = c.self.invariant.0 in
+    let at : slice_get c.self.inside.benches.items c.from.result ≡ Some c.in-Some.bench.now = subst (λ (l : List Bench). slice_get l c.from.result ≡ Some c.in-Some.bench.now) c.deref.ensures.value
+    (lent_at c.deref.result.now c.from.result c.in-Some.bench.now c.in-Some.ensures.lookup.3.0 c.in-Some.ensures.lookup.1) in
+    let same : c.from.result ≡ c.args.vb = search rules in
+    let m = benched_world c.self.inside.config c.self.inside.world c.mark_at.new.world c.self.inside.benches.items c.self.inside.callers.items c.from.result c.in-Some.bench.now i at
+    (subst (λ (k : ℕ). Worked c.self.inside.config k c.self.inside.world c.mark_at.new.world) (sym same) c.mark_at.ensures.worked) c.mark_at.ensures.sound (subst (λ (k : ℕ). BenchStands (front_in c.mark_at.new.world k) (bench_data c.in-Some.bench.now)) (sym same) c.mark_at.ensures.bench) in
+    m.0
+
+-- src/engine.rt:112:5
+pub returns-clause-goes_on : goal.returns-clause-goes_on
+returns-clause-goes_on c =
+    let i : Interleaves (core_data c.self.inside.config c.self.inside.world c.self.inside.benches.items c.self.inside.callers.items) = c.self.invariant.0 in
+    let at : slice_get c.self.inside.benches.items c.from.result ≡ Some c.in-Some.bench.now = subst (λ (l : List Bench). slice_get l c.from.result ≡ Some c.in-Some.bench.now) c.deref.ensures.value
+    (lent_at c.deref.result.now c.from.result c.in-Some.bench.now c.in-Some.ensures.lookup.3.0 c.in-Some.ensures.lookup.1) in
+    let same : c.from.result ≡ c.args.vb = search rules in
+    let m = benched_world c.self.inside.config c.self.inside.world c.mark_at.new.world c.self.inside.benches.items c.self.inside.callers.items c.from.result c.in-Some.bench.now i at
+    (subst (λ (k : ℕ). Worked c.self.inside.config k c.self.inside.world c.mark_at.new.world) (sym same) c.mark_at.ensures.worked) c.mark_at.ensures.sound (subst (λ (k : ℕ). BenchStands (front_in c.mark_at.new.world k) (bench_data c.in-Some.bench.now)) (sym same) c.mark_at.ensures.bench) in
+    subst (λ (s : CoreData). GoesOn s (core_data c.self.inside.config c.mark_at.new.world c.self.inside.benches.items c.self.inside.callers.items)) c.self.view_is m.1

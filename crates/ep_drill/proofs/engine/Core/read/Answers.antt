@@ -1,0 +1,49 @@
+use Rattle.std.proofs.Common.{rules, ◌≡◌, Some, None, ℕ, slice_set, slice_get, sym, subst}
+use Rattle.ep_drill.specs.Core.{bench_data, core_data, Interleaves, GoesOn, BenchStands, Moved}
+use Rattle.vb_world.specs.World.{front_in}
+use Rattle.ep_drill.specs.declared.data.CoreData.{CoreData}
+use Rattle.ep_drill.proofs.EngineLemmas.{lent_at, bench_of, benched_still}
+use Rattle.ep_drill.proofs.engine.Core.read.Goals as goal
+
+-- src/engine.rt:150:15
+pub read_at-requires-clause-bench : goal.read_at-requires-clause-bench
+read_at-requires-clause-bench c =
+    let i : Interleaves (core_data c.self.inside.config c.self.inside.world c.self.inside.benches.items c.self.inside.callers.items) = c.self.invariant.0 in
+    let at : slice_get c.self.inside.benches.items c.from.result ≡ Some c.in-Some.bench.now =
+    lent_at c.self.inside.benches.items c.from.result c.in-Some.bench.now c.in-Some.ensures.item.3.0 c.in-Some.ensures.value in
+    let same : c.from.result ≡ c.args.vb = search rules in
+    subst (λ (k : ℕ). BenchStands (front_in c.self.inside.world k) (bench_data c.in-Some.bench.now)) same
+    (bench_of c.self.inside.config c.self.inside.world c.self.inside.benches.items c.self.inside.callers.items c.from.result c.in-Some.bench.now i at).0
+
+-- src/engine.rt:140:5
+pub invariant_of-self-2 : goal.invariant_of-self-2
+invariant_of-self-2 c =
+    let i : Interleaves (core_data c.self.inside.config c.self.inside.world c.self.inside.benches.items c.self.inside.callers.items) = c.self.invariant.0 in
+    let at : slice_get c.self.inside.benches.items c.from.result ≡ Some c.in-Some.bench.now =
+    lent_at c.self.inside.benches.items c.from.result c.in-Some.bench.now c.in-Some.ensures.item.3.0 c.in-Some.ensures.value in
+    let same : c.from.result ≡ c.args.vb = search rules in
+    let m = benched_still c.self.inside.config c.self.inside.world c.read_at.new.world c.self.inside.benches.items c.self.inside.callers.items c.from.result c.in-Some.bench.now c.read_at.new.bench i at
+    (subst (λ (k : ℕ). Moved c.self.inside.config k None c.self.inside.world c.read_at.new.world) (sym same) c.read_at.ensures.moved) c.read_at.ensures.sound (subst (λ (k : ℕ). BenchStands (front_in c.read_at.new.world k) (bench_data c.read_at.new.bench)) (sym same) c.read_at.ensures.bench) in
+    (m.0, c.read_at.ensures.value)
+
+-- src/engine.rt:140:5
+pub returns-clause-interleaves : goal.returns-clause-interleaves
+returns-clause-interleaves c =
+    let i : Interleaves (core_data c.self.inside.config c.self.inside.world c.self.inside.benches.items c.self.inside.callers.items) = c.self.invariant.0 in
+    let at : slice_get c.self.inside.benches.items c.from.result ≡ Some c.in-Some.bench.now =
+    lent_at c.self.inside.benches.items c.from.result c.in-Some.bench.now c.in-Some.ensures.item.3.0 c.in-Some.ensures.value in
+    let same : c.from.result ≡ c.args.vb = search rules in
+    let m = benched_still c.self.inside.config c.self.inside.world c.read_at.new.world c.self.inside.benches.items c.self.inside.callers.items c.from.result c.in-Some.bench.now c.read_at.new.bench i at
+    (subst (λ (k : ℕ). Moved c.self.inside.config k None c.self.inside.world c.read_at.new.world) (sym same) c.read_at.ensures.moved) c.read_at.ensures.sound (subst (λ (k : ℕ). BenchStands (front_in c.read_at.new.world k) (bench_data c.read_at.new.bench)) (sym same) c.read_at.ensures.bench) in
+    m.0
+
+-- src/engine.rt:140:5
+pub returns-clause-goes_on : goal.returns-clause-goes_on
+returns-clause-goes_on c =
+    let i : Interleaves (core_data c.self.inside.config c.self.inside.world c.self.inside.benches.items c.self.inside.callers.items) = c.self.invariant.0 in
+    let at : slice_get c.self.inside.benches.items c.from.result ≡ Some c.in-Some.bench.now =
+    lent_at c.self.inside.benches.items c.from.result c.in-Some.bench.now c.in-Some.ensures.item.3.0 c.in-Some.ensures.value in
+    let same : c.from.result ≡ c.args.vb = search rules in
+    let m = benched_still c.self.inside.config c.self.inside.world c.read_at.new.world c.self.inside.benches.items c.self.inside.callers.items c.from.result c.in-Some.bench.now c.read_at.new.bench i at
+    (subst (λ (k : ℕ). Moved c.self.inside.config k None c.self.inside.world c.read_at.new.world) (sym same) c.read_at.ensures.moved) c.read_at.ensures.sound (subst (λ (k : ℕ). BenchStands (front_in c.read_at.new.world k) (bench_data c.read_at.new.bench)) (sym same) c.read_at.ensures.bench) in
+    subst (λ (s : CoreData). GoesOn s (core_data c.self.inside.config c.read_at.new.world (slice_set c.self.inside.benches.items c.from.result c.read_at.new.bench) c.self.inside.callers.items)) c.self.view_is m.1

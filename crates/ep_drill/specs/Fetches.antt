@@ -1,0 +1,121 @@
+-- What reads of the store find, and how they end.
+use Rattle.std.specs.Prelude.{◌≡◌, ℕ, ◌≤◌, ◌<◌, ◌⊎◌, Bool, true, false, List, Option, Some, None, Vec}
+use Rattle.std.specs.FinMap as map
+use Rattle.std.specs.declared.alloc.Global.{Global}
+use Rattle.ep_model.specs.declared.call.Meta.{Meta}
+use Rattle.ep_model.specs.Limits.{IsKey}
+use Rattle.ep_model.specs.declared.data.EventData.TheVariants as events
+use Rattle.ep_model.specs.declared.data.FrontData.{FrontData}
+use Rattle.ep_model.specs.declared.event.Ticket.{Ticket}
+use Rattle.ep_model.specs.Front.{with_event}
+use Rattle.kv_keeper.specs.declared.data.DeskData.{DeskData}
+use Rattle.kv_keeper.specs.Content.{Content}
+use Rattle.ep_drill.specs.declared.flat.data.FetchedData.{FetchedData}
+use Rattle.ep_drill.specs.declared.flat.data.FoundData.{FoundData}
+use Rattle.ep_drill.specs.declared.flat.data.FoundData.TheVariants as founds
+use Rattle.ep_drill.specs.declared.fetched.Fetched.{Fetched}
+use Rattle.ep_drill.specs.declared.fetched.Found.{Found}
+use Rattle.ep_drill.specs.declared.fetched.Found.TheVariants as found
+use Rattle.ep_drill.specs.declared.fetch.Merging.{Merging}
+use Rattle.ep_drill.specs.declared.fetch.Merging.TheVariants as mergings
+use Rattle.ep_drill.specs.declared.part.Part.{Part}
+use Rattle.ep_drill.specs.declared.part.Part.TheVariants as parts
+use Rattle.ep_drill.specs.declared.flat.data.NodeData.{NodeData}
+use Rattle.ep_drill.specs.declared.flat.data.Outcome.{Outcome}
+use Rattle.ep_drill.specs.declared.flat.data.Outcome.TheVariants as outcomes
+use Rattle.ep_drill.specs.declared.flat.data.PlaceData.{PlaceData}
+use Rattle.ep_drill.specs.declared.flat.data.StripeData.{StripeData}
+use Rattle.ep_drill.specs.Nodes.{doc_of, node_at, outcome_at, settled}
+use Rattle.ep_drill.specs.Steps.{restored}
+use Rattle.ep_drill.specs.Stands.{FetchedStands}
+
+-- what was read, without where its bytes lie
+abbrev pub found_data : Found → FoundData
+found_data (found.Row row) = founds.Row (doc_of row.meta row.value.items)
+found_data found.Absent = founds.Absent
+found_data (found.Failed fault) = founds.Failed fault
+found_data found.NoMemory = founds.NoMemory
+
+abbrev pub fetched_data : Fetched → FetchedData
+fetched_data f = record { ticket = f.ticket; key = f.key.items; found = found_data f.found }
+
+-- a copy of the first place whose read still waits, by its number and its key
+abbrev pub IsOldest : Option PlaceData → Option (ℕ × Vec ℕ Global) → Type 0
+IsOldest None None = Unit {0}
+IsOldest None (Some copy) = ⊥
+IsOldest (Some place) None = ⊥
+IsOldest (Some place) (Some copy) = (copy.0 ≡ place.number) × (copy.1.items ≡ place.key) × IsKey copy.1.items
+
+-- what was read is what the store holds of the key
+abbrev pub IsFoundIn : Content → List ℕ → FoundData → Type 0
+IsFoundIn content key (founds.Row doc) = map.get content.docs key ≡ Some doc
+IsFoundIn content key founds.Absent = map.get content.docs key ≡ None
+IsFoundIn content key (founds.Failed fault) = Unit {0}
+IsFoundIn content key founds.NoMemory = Unit {0}
+
+-- A value that was read goes back where the key's node has this metadata and its value is away; else nothing changes. It is in
+-- memory then, or was before, exactly where that is answered.
+abbrev pub IsBack : StripeData → List ℕ → Meta → List ℕ → StripeData → Bool → Type 0
+IsBack x key meta value y true =
+    (node : NodeData) × (node_at x.nodes key ≡ Some node) × (((node.value ≡ None → ⊥) × (y ≡ x)) ⊎ ((node.value ≡ None) × (node.meta ≡ meta) × (y ≡ restored x key (doc_of meta value))))
+IsBack x key meta value y false = (y ≡ x) × ((node : NodeData) → node_at x.nodes key ≡ Some node → (node.value ≡ None) × (node.meta ≡ meta → ⊥))
+
+-- what a read leaves of its stripe
+abbrev pub settles : StripeData → ℕ → Outcome → StripeData
+settles x number outcome = record x { places = settled x.places number outcome }
+
+-- A failed read has the number that the desk's count of read faults has since; any other leaves the count.
+abbrev pub IsCounted : ℕ → ℕ → FoundData → Type 0
+IsCounted before now (founds.Row doc) = now ≡ before
+IsCounted before now founds.Absent = now ≡ before
+IsCounted before now (founds.Failed fault) = (before < fault) × (fault ≡ now)
+IsCounted before now founds.NoMemory = now ≡ before
+
+-- a read for whoever waits in the stripe stands; none is made where nobody waits
+abbrev pub IsRead : FrontData → ℕ → ℕ → ℕ → Option Fetched → Type 0
+IsRead f stripe before now None = now ≡ before
+IsRead f stripe before now (Some fetched) = FetchedStands f (fetched_data fetched) × (fetched.ticket.stripe ≡ stripe) × IsCounted before now (found_data fetched.found)
+
+-- a read leaves the store and what is known of it, but for the count of read faults
+pub record DeskRead {K : Type 0} (content : Content) (now : Option Content) (old new : DeskData K) : Type 0 where
+  pub told : now ≡ Some content
+  pub stored : new.stored ≡ old.stored
+  pub noted : new.noted ≡ old.noted
+  pub doubt : new.doubt ≡ old.doubt
+  pub faults : old.read_faults ≤ new.read_faults
+
+-- the place of a ticket still stands in a stripe
+abbrev pub HasPlace : Option Part → Ticket → Type 0
+HasPlace None ticket = ⊥
+HasPlace (Some (parts.Stripe x)) ticket = (outcome_at x.places ticket.number ≡ None) → ⊥
+HasPlace (Some (parts.Queue q)) ticket = ⊥
+HasPlace (Some (parts.Desk d)) ticket = ⊥
+
+abbrev pub HasNoPlace : Option Part → Ticket → Type 0
+HasNoPlace None ticket = ⊥
+HasNoPlace (Some (parts.Stripe x)) ticket = outcome_at x.places ticket.number ≡ None
+HasNoPlace (Some (parts.Queue q)) ticket = ⊥
+HasNoPlace (Some (parts.Desk d)) ticket = ⊥
+
+-- in a stripe the place of a ticket has this outcome
+abbrev pub HasOutcome : Option Part → Ticket → Outcome → Type 0
+HasOutcome None ticket outcome = ⊥
+HasOutcome (Some (parts.Stripe x)) ticket outcome = outcome_at x.places ticket.number ≡ Some outcome
+HasOutcome (Some (parts.Queue q)) ticket outcome = ⊥
+HasOutcome (Some (parts.Desk d)) ticket outcome = ⊥
+
+-- in a stripe the value of a key is in memory
+abbrev pub HasValue : Option Part → List ℕ → Type 0
+HasValue None key = ⊥
+HasValue (Some (parts.Stripe x)) key = (node : NodeData) × (node_at x.nodes key ≡ Some node) × (node.value ≡ None → ⊥)
+HasValue (Some (parts.Queue q)) key = ⊥
+HasValue (Some (parts.Desk d)) key = ⊥
+
+-- A read is stale exactly where nobody waits at its ticket. Else it ends as it says, whoever waits there finds that, and a failure
+-- is told. What was read is in memory then.
+abbrev pub IsMerged : FrontData → FrontData → Option Part → Option Part → FetchedData → Merging → Type 0
+IsMerged old new part left fetched mergings.Merged = (new ≡ old) × HasPlace part fetched.ticket × HasOutcome left fetched.ticket outcomes.Merged × HasValue left fetched.key
+IsMerged old new part left fetched mergings.Absent = (new ≡ old) × HasPlace part fetched.ticket × (fetched.found ≡ founds.Absent) × HasOutcome left fetched.ticket outcomes.Absent
+IsMerged old new part left fetched mergings.Stale = (new ≡ old) × (left ≡ part) × HasNoPlace part fetched.ticket
+IsMerged old new part left fetched mergings.Failed = (fault : ℕ) × (fetched.found ≡ founds.Failed fault) × (new ≡ with_event old (events.ReadFailed fetched.ticket fault)) × HasPlace part fetched.ticket × HasOutcome left fetched.ticket (outcomes.Failed fault)
+IsMerged old new part left fetched mergings.NoMemory = (new ≡ old) × (fetched.found ≡ founds.NoMemory) × HasPlace part fetched.ticket × HasOutcome left fetched.ticket outcomes.NoMemory

@@ -1,0 +1,169 @@
+-- What the parts are to a history.
+use Rattle.std.specs.Prelude.{◌≡◌, ◌⊎◌, ℕ, ◌≤◌, ◌<◌, true, false, nat_lt, List, [], ◌∷◌, ◌++◌, Option, Some, None}
+use Rattle.std.specs.List.{AllByRecursion}
+use Rattle.std.specs.FinMap as map
+use Rattle.ep_model.specs.declared.event.Ticket.{Ticket}
+use Rattle.ep_model.specs.declared.data.CallData.{CallData}
+use Rattle.ep_model.specs.declared.data.EventData.{EventData}
+use Rattle.ep_model.specs.declared.data.EventData.TheVariants as events
+use Rattle.ep_model.specs.declared.data.FrontData.{FrontData}
+use Rattle.ep_model.specs.World.{Doc}
+use Rattle.ep_model.specs.Stripes.{stripe_of}
+use Rattle.ep_model.specs.History.{upto}
+use Rattle.ep_model.specs.Needs.{key_of}
+use Rattle.ep_model.specs.Front.{begun, world_of, marked}
+use Rattle.ep_model.specs.Legal.{IsSilent, IsUnused, IsBelow, IsNoFault, HasAsked, HasFailed}
+use Rattle.hold_stage.specs.Mutations.{mutations, above, is_waiting}
+use Rattle.ep_drill.specs.declared.flat.data.NodeData.{NodeData}
+use Rattle.ep_drill.specs.declared.flat.data.Outcome.{Outcome}
+use Rattle.ep_drill.specs.declared.flat.data.Outcome.TheVariants.{Waiting, Merged, Absent, Failed, NoMemory}
+use Rattle.ep_drill.specs.declared.flat.data.PlaceData.{PlaceData}
+use Rattle.ep_drill.specs.declared.flat.data.StripeData.{StripeData}
+use Rattle.ep_drill.specs.declared.flat.data.QueueData.{QueueData}
+use Rattle.ep_drill.specs.declared.flat.data.FetchedData.{FetchedData}
+use Rattle.ep_drill.specs.declared.flat.data.FoundData.{FoundData}
+use Rattle.ep_drill.specs.declared.flat.data.FoundData.TheVariants as founds
+use Rattle.kv_keeper.specs.declared.data.BatchData.{BatchData}
+use Rattle.kv_keeper.specs.Batch.{laid}
+use Rattle.kv_keeper.specs.Content.{Content}
+use Rattle.ep_drill.specs.Nodes.{meta_of, node_at}
+
+-- A resident value is the document's. A value may be away only where the stripe knows that it is stored, and where the
+-- document isn't deleted.
+abbrev pub ValueStands : ℕ → Doc → Option (List ℕ) → Type 0
+ValueStands mark doc None = (doc.seqno ≤ mark) × (doc.deleted ≡ false)
+ValueStands mark doc (Some value) = value ≡ doc.value
+
+-- a key's node has the metadata of its document, which is one of this stripe
+pub record NodeStands (f : FrontData) (stripe : ℕ) (key : List ℕ) (node : NodeData) : Type 0 where
+  pub doc : Doc
+  pub found : map.get (world_of f).docs key ≡ Some doc
+  pub here : stripe_of key f.config.stripes ≡ stripe
+  pub meta : node.meta ≡ meta_of doc
+  pub value : ValueStands (marked f stripe) doc node.value
+
+-- under value eviction memory has nothing of a document only where it is deleted and stored, or where there is none
+abbrev pub IsGone : ℕ → Option Doc → Type 0
+IsGone mark None = Unit {0}
+IsGone mark (Some doc) = (doc.seqno ≤ mark) × (doc.deleted ≡ true)
+
+-- the event is no failed read for the ticket
+abbrev pub IsNoRead : Ticket → EventData → Type 0
+IsNoRead ticket (events.Called caller call now reply value) = Unit {0}
+IsNoRead ticket (events.Refused caller call now cause) = Unit {0}
+IsNoRead ticket (events.Expired key now) = Unit {0}
+IsNoRead ticket (events.Persisted number) = Unit {0}
+IsNoRead ticket (events.Marked stripe number) = Unit {0}
+IsNoRead ticket (events.Asked other caller call) = Unit {0}
+IsNoRead ticket (events.ReadFailed other fault) = (other ≡ ticket) → ⊥
+IsNoRead ticket events.Opened = Unit {0}
+
+-- the key has no live document to come
+abbrev pub IsAbsent : Option Doc → Type 0
+IsAbsent None = Unit {0}
+IsAbsent (Some doc) = doc.deleted ≡ true
+
+-- what became of a read is what the history says
+abbrev pub OutcomeStands : FrontData → Ticket → List ℕ → Outcome → Type 0
+OutcomeStands f ticket key Waiting = AllByRecursion (IsNoRead ticket) f.events
+OutcomeStands f ticket key Merged = Unit {0}
+OutcomeStands f ticket key Absent = IsAbsent (map.get (world_of f).docs key)
+OutcomeStands f ticket key (Failed fault) = HasFailed f.events ticket fault
+OutcomeStands f ticket key NoMemory = Unit {0}
+
+abbrev pub ticket_of : ℕ → ℕ → Ticket
+ticket_of stripe number = record { stripe = stripe; number = number }
+
+-- Each place was asked for, its document hasn't changed since, and no call was refused for what became of it.
+pub record PlaceStands (f : FrontData) (stripe : ℕ) (place : PlaceData) : Type 0 where
+  pub here : stripe_of place.key f.config.stripes ≡ stripe
+  pub waiting : is_waiting f (ticket_of stripe place.number) place.key ≡ true
+  pub unused : AllByRecursion (IsUnused (ticket_of stripe place.number)) f.events
+  pub outcome : OutcomeStands f (ticket_of stripe place.number) place.key place.outcome
+
+-- a stripe stands for a history
+pub record StripeStands (f : FrontData) (stripe : ℕ) (x : StripeData) : Type 0 where
+  pub there : nat_lt stripe f.config.stripes ≡ true
+  pub index : x.index ≡ stripe
+  pub nodes : (key : List ℕ) (node : NodeData) → node_at x.nodes key ≡ Some node → NodeStands f stripe key node
+  pub gone : (world_of f).opened ≡ true → (key : List ℕ) → stripe_of key f.config.stripes ≡ stripe → node_at x.nodes key ≡ None → IsGone (marked f stripe) (map.get (world_of f).docs key)
+  pub mark : x.mark ≡ marked f stripe
+  pub state : x.state ≡ (world_of f).state
+  pub opened : x.opened ≡ (world_of f).opened
+  pub places : AllByRecursion (PlaceStands f stripe) x.places
+  pub next : AllByRecursion (IsBelow (ticket_of stripe x.next)) f.events
+  pub closed : (world_of f).opened ≡ false → x.places ≡ []
+
+-- a queue stands for a history: it holds all mutations above the persisted number, so that nothing that isn't stored is lost
+pub record QueueStands (f : FrontData) (q : QueueData) : Type 0 where
+  pub items : q.items ≡ above (world_of f).persisted (mutations (begun f) f.events)
+  pub high : q.high ≡ (world_of f).high
+  pub maxcas : q.maxcas ≡ (world_of f).maxcas
+  pub persisted : q.persisted ≡ (world_of f).persisted
+  pub state : q.state ≡ (world_of f).state
+  pub opened : q.opened ≡ (world_of f).opened
+  -- a flat queue has an empty failover table
+  pub table : (world_of f).failovers ≡ []
+
+-- The caller's call asked at this ticket before, and no call of the caller was answered since.
+pub record PriorStands (f : FrontData) (caller : ℕ) (call : CallData) (ticket : Ticket) : Type 0 where
+  pub before : List EventData
+  pub later : List EventData
+  pub asked : f.events ≡ before ++ events.Asked ticket caller call ∷ later
+  pub silent : AllByRecursion (IsSilent caller) later
+
+abbrev pub PriorsStand : FrontData → ℕ → CallData → Option Ticket → Type 0
+PriorsStand f caller call None = Unit {0}
+PriorsStand f caller call (Some ticket) = PriorStands f caller call ticket
+
+-- a failed read has a number up to this one
+abbrev pub IsFaultWithin : ℕ → EventData → Type 0
+IsFaultWithin faults (events.Called caller call now reply value) = Unit {0}
+IsFaultWithin faults (events.Refused caller call now cause) = Unit {0}
+IsFaultWithin faults (events.Expired key now) = Unit {0}
+IsFaultWithin faults (events.Persisted number) = Unit {0}
+IsFaultWithin faults (events.Marked stripe number) = Unit {0}
+IsFaultWithin faults (events.Asked ticket caller call) = Unit {0}
+IsFaultWithin faults (events.ReadFailed ticket fault) = (1 ≤ fault) × (fault ≤ faults)
+IsFaultWithin faults events.Opened = Unit {0}
+
+-- a store holds what the history had put at one of its numbers
+pub record HoldsAt (f : FrontData) (content : Content) (number : ℕ) : Type 0 where
+  pub docs : content.docs ≡ (upto (begun f) f.events number).docs
+  pub high : content.high ≡ number
+  pub maxcas : content.maxcas ≡ (upto (begun f) f.events number).maxcas
+
+-- Where a commit failed, that is so at the number up to which the store was known before, or at the one in doubt.
+abbrev pub ContentStands : FrontData → Content → ℕ → Option ℕ → Type 0
+ContentStands f content stored None = HoldsAt f content stored
+ContentStands f content stored (Some doubt) = (stored ≤ doubt) × (doubt ≤ (world_of f).high) × (HoldsAt f content stored ⊎ HoldsAt f content doubt)
+
+-- A desk stands for a history: its store holds what the history had put at a number that is not below the persisted one.
+pub record DeskStands (f : FrontData) (content : Content) (stored : ℕ) (doubt : Option ℕ) (noted faults : ℕ) : Type 0 where
+  pub low : (world_of f).persisted ≤ stored
+  pub top : stored ≤ (world_of f).high
+  pub holds : ContentStands f content stored doubt
+  pub persisted : noted ≡ (world_of f).persisted
+  pub told : AllByRecursion (IsFaultWithin faults) f.events
+
+-- A batch stands between its taking and its commit: laid over what the store holds it gives what the history had put at the
+-- batch's number.
+pub record BatchStands (f : FrontData) (stored : ℕ) (batch : BatchData) : Type 0 where
+  pub opened : (world_of f).opened ≡ true
+  pub low : stored < batch.to
+  pub top : batch.to ≤ (world_of f).high
+  pub docs : laid batch.rows (upto (begun f) f.events stored).docs ≡ (upto (begun f) f.events batch.to).docs
+  pub maxcas : batch.maxcas ≡ (upto (begun f) f.events batch.to).maxcas
+
+-- What was read is the document of whoever still waits at the ticket, and a failure is told by no event yet.
+abbrev pub FoundStands : FrontData → Ticket → FoundData → Type 0
+FoundStands f ticket (founds.Row doc) = (key : List ℕ) → is_waiting f ticket key ≡ true → map.get (world_of f).docs key ≡ Some doc
+FoundStands f ticket founds.Absent = (key : List ℕ) → is_waiting f ticket key ≡ true → IsAbsent (map.get (world_of f).docs key)
+FoundStands f ticket (founds.Failed fault) = AllByRecursion (IsNoFault fault) f.events
+FoundStands f ticket founds.NoMemory = Unit {0}
+
+-- a read stands between the look at the store and its merge
+pub record FetchedStands (f : FrontData) (fetched : FetchedData) : Type 0 where
+  pub asked : HasAsked f.events fetched.ticket
+  pub keyed : key_of asked.call ≡ Some fetched.key
+  pub found : FoundStands f fetched.ticket fetched.found

@@ -1,0 +1,31 @@
+// What clauses see of a core: plain data. No value of these types is made.
+use crate::flat::data::FetchedData;
+use crate::part::Part;
+use ep_model::{CallData, Config, Ticket};
+use kv_keeper::{BatchData, DeskData, MemoryKeeper};
+use std::collections::LinkedList;
+use vb_world::WorldData;
+
+/// The desk over a vBucket's store, the batch that was taken and isn't committed, and for each stripe the read that
+/// was made and isn't merged.
+pub struct BenchData {
+    pub desk: DeskData<MemoryKeeper>,
+    pub batch: Option<BatchData>,
+    pub reads: LinkedList<Option<FetchedData>>,
+}
+
+/// A caller's calls in their order, each with its vBucket, how many of them are answered, and the ticket at which the
+/// next one waits.
+pub struct CallerData {
+    pub calls: LinkedList<(u16, CallData)>,
+    pub answered: u64,
+    pub prior: Option<Ticket>,
+}
+
+/// A core: its layout, its vBuckets with their histories, what their stores are worked on with, and its callers.
+pub struct CoreData {
+    pub config: Config,
+    pub world: WorldData<Part>,
+    pub benches: LinkedList<BenchData>,
+    pub callers: LinkedList<CallerData>,
+}

@@ -1,0 +1,204 @@
+// Values that are read back from the store for calls that wait for them.
+ghost use Rattle.std.specs.Prelude.{◌≡◌, ◌+◌, ◌≤◌, true, if◌then◌else◌, length, Some, None, IfOk};
+ghost use Rattle.ep_model.specs.declared.config.Eviction.TheVariants.{Value as ValueEviction};
+ghost use Rattle.ep_model.specs.declared.event.PartName.{PartName};
+ghost use Rattle.ep_model.specs.declared.event.PartName.TheVariants.{Stripe};
+ghost use Rattle.ep_model.specs.declared.limits.TheConstants.{MAX_VALUE};
+ghost use Rattle.ep_model.specs.Legal.{IsLegal};
+ghost use Rattle.ep_model.specs.Limits.{IsKey};
+ghost use Rattle.hold_stage.specs.Touches.{there, same_part};
+ghost use Rattle.hold_stage.specs.Grows.{Same, IsNone, but_this};
+ghost use Rattle.kv_keeper.specs.Content.{Content};
+ghost use Rattle.kv_keeper.specs.Desk.{IsSure};
+ghost use Rattle.ep_drill.specs.Nodes.{first_waiting};
+ghost use Rattle.ep_drill.specs.Stands.{StripeStands, DeskStands, FetchedStands};
+ghost use Rattle.ep_drill.specs.Calls.{AreHome, HasRoom};
+ghost use Rattle.ep_drill.specs.Fetches.{found_data, fetched_data, settles, IsOldest, IsFoundIn, IsCounted, IsBack, IsRead, IsMerged, DeskRead};
+
+pub use crate::fetched::{Fetched, Found, Row};
+use crate::flat::data::Outcome;
+use crate::flat::node::Found as Look;
+use crate::flat::stripe::FlatStripe;
+use crate::hold::{take_desk, take_stripe};
+use crate::part::Part;
+use ep_model::{Event, NoMemory, Out, PartName, Ticket};
+use hold_stage::Stage;
+use kv_keeper::{Desk, Keeper, Kept};
+use std::alloc::Global;
+
+/// How a read of the store ended for the calls that wait for it.
+#[derive(Clone, Copy, Debug, PartialEq, Eq)]
+pub enum Merging {
+    /// The value is in memory again.
+    Merged,
+    /// The store has no live document.
+    Absent,
+    /// Nobody waits any more, or the document has changed since: nothing changes.
+    Stale,
+    /// The store failed, which is noted.
+    Failed,
+    NoMemory,
+}
+
+// The oldest read that waits in a stripe: its ticket's number and a copy of its key.
+fn copy_oldest(alloc: Global, part: &FlatStripe) -> Result<Option<(u64, Vec<u8>)>, NoMemory>
+    ensures { IfOk result (IsOldest (first_waiting part.now.places)) }
+{
+    match part.oldest() {
+        None => Ok(None),
+        Some(place) => Ok(Some((place.number, place.key.to_vec(alloc)?))),
+    }
+}
+
+// What the store holds of a key. Where memory is wanting for a copy of the value, it has been asked all the same.
+fn read_found<K: Keeper>(
+    alloc: Global,
+    desk: &mut Desk<K>,
+    key: &[u8],
+    value: &mut Out,
+) -> Result<Found, NoMemory>
+    requires sure { IsSure desk.old }
+    requires key { IsKey key.now }
+    requires value { MAX_VALUE ≤ value.old.spare + length value.old.bytes }
+    ensures found { IfOk result (λ found. (c : Content) → K.content desk.old.keeper ≡ Some c → IsFoundIn c key.now (found_data found)) }
+    ensures counted { IfOk result (λ found. IsCounted desk.old.read_faults desk.new.read_faults (found_data found)) }
+    ensures desk { (c : Content) → K.content desk.old.keeper ≡ Some c → DeskRead c (K.content desk.new.keeper) desk.old desk.new }
+    ensures value { value.new.spare + length value.new.bytes ≡ value.old.spare + length value.old.bytes }
+{
+    value.cut(0);
+    match desk.get(alloc, key, value) {
+        Kept::Good(Some(meta)) => match value.bytes().to_vec(alloc) {
+            Ok(value) => Ok(Found::Row(Row { meta, value })),
+            Err(_) => Err(NoMemory),
+        },
+        Kept::Good(None) => Ok(Found::Absent),
+        Kept::Failed => Ok(Found::Failed(desk.read_faults())),
+        Kept::NoMemory => Ok(Found::NoMemory),
+    }
+}
+
+/// Reads the document of the oldest call that waits in a stripe: none where none waits. No part is held while the
+/// store is asked. Where memory is wanting for copies, the parts and the history are as they were.
+pub(crate) fn fetch_read<S: Stage<Part = Part>, K: Keeper>(
+    alloc: Global,
+    desk: &mut Desk<K>,
+    stage: &mut S,
+    stripe: u16,
+    value: &mut Out,
+) -> Result<Option<Fetched>, NoMemory>
+    ghost content: { Content }
+    requires there { there (S.front stage.old).config (Stripe stripe) ≡ true }
+    requires eviction { (S.front stage.old).config.eviction ≡ ValueEviction }
+    requires sure { IsSure desk.old }
+    requires told { K.content desk.old.keeper ≡ Some content }
+    requires desk { DeskStands (S.front stage.old) content desk.old.stored None desk.old.noted desk.old.read_faults }
+    requires telling { S.is_telling stage.old ≡ true }
+    requires home { AreHome (S.front stage.old).config (S.tells stage.old) }
+    requires free { IsNone (S.holds stage.old) }
+    requires value { value.old.spare + length value.old.bytes ≡ MAX_VALUE }
+    ensures stays { (S.lent stage.new ≡ S.lent stage.old) × (S.fixed stage.new ≡ S.fixed stage.old) × (S.number stage.new ≡ S.number stage.old) × (S.is_desk stage.new ≡ S.is_desk stage.old) × (S.is_telling stage.new ≡ S.is_telling stage.old) }
+    ensures front { S.front stage.new ≡ S.front stage.old }
+    ensures read { IfOk result (IsRead (S.front stage.old) stripe desk.old.read_faults desk.new.read_faults) }
+    ensures desk { DeskRead content (K.content desk.new.keeper) desk.old desk.new }
+    ensures free { Same (S.holds stage.new) (S.holds stage.old) }
+    ensures home { AreHome (S.front stage.old).config (S.tells stage.new) }
+    ensures value { value.new.spare + length value.new.bytes ≡ MAX_VALUE }
+{
+    let part = take_stripe(stage, stripe);
+    let oldest = copy_oldest(alloc, &part);
+    stage.give(PartName::Stripe(stripe), Part::Stripe(part));
+    match oldest {
+        Err(NoMemory) => Err(NoMemory),
+        Ok(None) => Ok(None),
+        Ok(Some((number, key))) => match read_found(alloc, desk, &key, value) {
+            Err(NoMemory) => Err(NoMemory),
+            Ok(found) => {
+                let ticket = Ticket { stripe, number };
+                Ok(Some(Fetched { ticket, key, found }))
+            }
+        },
+    }
+}
+
+// Puts a value back that was read, where the key's node still waits for it: whether it is in memory then.
+fn put_back(part: &mut FlatStripe, key: &[u8], row: Row) -> bool
+    ensures { IsBack part.old key.now row.meta row.value.items part.new result }
+{
+    match part.find(key) {
+        Look::Resident(_) => true,
+        Look::Ejected(meta) if meta == row.meta => {
+            part.restore(key, row.meta, row.value);
+            true
+        }
+        Look::Ejected(_) | Look::Nothing => false,
+    }
+}
+
+// Notes in a stripe that is held what became of a read, and gives the stripe back.
+fn settle<S: Stage<Part = Part>>(
+    stage: &mut S,
+    mut part: FlatStripe,
+    ticket: Ticket,
+    outcome: Outcome,
+)
+    requires held { S.holds stage.old (Stripe ticket.stripe) ≡ true }
+    requires stands { StripeStands (S.front stage.old) ticket.stripe (settles part ticket.number outcome) }
+    ensures stays { (S.lent stage.new ≡ S.lent stage.old) × (S.fixed stage.new ≡ S.fixed stage.old) × (S.number stage.new ≡ S.number stage.old) × (S.is_desk stage.new ≡ S.is_desk stage.old) × (S.is_telling stage.new ≡ S.is_telling stage.old) }
+    ensures front { S.front stage.new ≡ S.front stage.old }
+    ensures held { Same (S.holds stage.new) (but_this (Stripe ticket.stripe) (S.holds stage.old)) }
+    ensures tells { S.is_telling stage.old ≡ true → (p : PartName) → there (S.front stage.old).config p ≡ true → S.tells stage.new p ≡ (if same_part (Stripe ticket.stripe) p then Some (Part.Stripe (settles part ticket.number outcome)) else S.tells stage.old p) }
+{
+    part.settle(ticket.number, outcome);
+    stage.give(PartName::Stripe(ticket.stripe), Part::Stripe(part));
+}
+
+/// Ends a read for whoever still waits for it. It takes no memory.
+pub(crate) fn fetch_merge<S: Stage<Part = Part>>(stage: &mut S, fetched: Fetched) -> Merging
+    requires there { there (S.front stage.old).config (Stripe fetched.ticket.stripe) ≡ true }
+    requires eviction { (S.front stage.old).config.eviction ≡ ValueEviction }
+    requires stands { FetchedStands (S.front stage.old) (fetched_data fetched) }
+    requires legal { IsLegal (S.front stage.old) }
+    requires is_desk { S.is_desk stage.old ≡ true }
+    requires telling { S.is_telling stage.old ≡ true }
+    requires home { AreHome (S.front stage.old).config (S.tells stage.old) }
+    requires free { IsNone (S.holds stage.old) }
+    requires room { HasRoom 0 (S.covers stage.old) }
+    ensures stays { (S.lent stage.new ≡ S.lent stage.old) × (S.fixed stage.new ≡ S.fixed stage.old) × (S.number stage.new ≡ S.number stage.old) × (S.is_desk stage.new ≡ S.is_desk stage.old) × (S.is_telling stage.new ≡ S.is_telling stage.old) }
+    ensures merged { IsMerged (S.front stage.old) (S.front stage.new) (S.tells stage.old (Stripe fetched.ticket.stripe)) (S.tells stage.new (Stripe fetched.ticket.stripe)) (fetched_data fetched) result }
+    ensures free { Same (S.holds stage.new) (S.holds stage.old) }
+    ensures home { AreHome (S.front stage.old).config (S.tells stage.new) }
+{
+    let Fetched { ticket, key, found } = fetched;
+    let mut part = take_stripe(stage, ticket.stripe);
+    if part.outcome(ticket.number).is_none() {
+        stage.give(PartName::Stripe(ticket.stripe), Part::Stripe(part));
+        return Merging::Stale;
+    }
+    match found {
+        Found::Row(row) => {
+            if put_back(&mut part, &key, row) {
+                settle(stage, part, ticket, Outcome::Merged);
+                Merging::Merged
+            } else {
+                settle(stage, part, ticket, Outcome::Absent);
+                Merging::Absent
+            }
+        }
+        Found::Absent => {
+            settle(stage, part, ticket, Outcome::Absent);
+            Merging::Absent
+        }
+        Found::Failed(fault) => {
+            // A failed read touches the desk too.
+            let desk = take_desk(stage);
+            stage.note(&Event::ReadFailed { ticket, fault });
+            stage.give(PartName::Desk, Part::Desk(desk));
+            settle(stage, part, ticket, Outcome::Failed(fault));
+            Merging::Failed
+        }
+        Found::NoMemory => {
+            settle(stage, part, ticket, Outcome::NoMemory);
+            Merging::NoMemory
+        }
+    }
+}

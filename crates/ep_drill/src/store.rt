@@ -1,0 +1,198 @@
+// What the store's side does to the parts of a vBucket: batches, marks and the pager.
+ghost use Rattle.std.specs.Prelude.{◌≡◌, ◌⊎◌, ◌+◌, ◌-◌, ◌^◌, ◌<◌, ◌≤◌, ℕ, true, false, if◌then◌else◌, [], length, min, Some, None, IfSome, IfOk, OnOk, OnErr};
+ghost use Rattle.ep_model.specs.declared.data.EventData.TheVariants.{Persisted as PersistedData, Marked as MarkedData};
+ghost use Rattle.ep_model.specs.declared.event.PartName.{PartName};
+ghost use Rattle.ep_model.specs.declared.event.PartName.TheVariants.{Stripe, Queue, Desk as DeskName};
+ghost use Rattle.ep_model.specs.Front.{world_of, with_event};
+ghost use Rattle.ep_model.specs.Legal.{May, IsLegal};
+ghost use Rattle.ep_model.specs.World.{Docs};
+ghost use Rattle.hold_stage.specs.Touches.{there};
+ghost use Rattle.hold_stage.specs.Grows.{Same, IsNone};
+ghost use Rattle.hold_stage.specs.Mutations.{laid_on};
+ghost use Rattle.kv_keeper.specs.Batch.{laid, AreWithin};
+ghost use Rattle.kv_keeper.specs.Content.{Content};
+ghost use Rattle.kv_keeper.specs.Desk.{IsSure};
+ghost use Rattle.ep_drill.specs.Steps.{page_step};
+ghost use Rattle.ep_drill.specs.Stands.{DeskStands, BatchStands};
+ghost use Rattle.ep_drill.specs.Calls.{AreHome, HasRoom};
+ghost use Rattle.ep_drill.specs.Answers.{IsMarked, IsPaged, IsTaken, IsFlushed};
+
+use crate::flat::queue::FlatQueue;
+use crate::hold::{take_desk, take_queue, take_stripe};
+use crate::part::Part;
+use ep_model::{Event, NoMemory, PartName};
+use hold_stage::Stage;
+use kv_keeper::{Batch, Desk, Keeper, Kept, MemoryKeeper, StoreState};
+use std::alloc::Global;
+
+/// The version of a store's layout.
+const VERSION: u32 = 1;
+
+/// How a stripe was marked.
+#[derive(Clone, Copy, Debug, PartialEq, Eq)]
+pub enum Marking {
+    /// It knows already what is stored.
+    Idle,
+    /// It knows now that mutations up to this number are stored.
+    Raised(u64),
+}
+
+/// What the pager did in a stripe.
+#[derive(Clone, Copy, Debug, PartialEq, Eq)]
+pub struct Paged {
+    /// The blocks that are left, at most 2^64 - 1.
+    pub used: u64,
+    /// How many values were ejected.
+    pub ejected: u64,
+}
+
+/// How a commit went.
+#[derive(Clone, Copy, Debug, PartialEq, Eq)]
+pub enum Flushed {
+    /// It was done, and it was noted that the store holds all mutations up to this number.
+    Stored(u64),
+    /// The store failed.
+    Failed,
+    NoMemory,
+}
+
+/// Tells a stripe what is stored, where it doesn't know. It takes no memory.
+pub(crate) fn mark_once<S: Stage<Part = Part>, K: Keeper>(
+    desk: &Desk<K>,
+    stage: &mut S,
+    stripe: u16,
+) -> Marking
+    requires there { there (S.front stage.old).config (Stripe stripe) ≡ true }
+    requires opened { (world_of (S.front stage.old)).opened ≡ true }
+    requires noted { desk.now.noted ≡ (world_of (S.front stage.old)).persisted }
+    requires telling { S.is_telling stage.old ≡ true }
+    requires home { AreHome (S.front stage.old).config (S.tells stage.old) }
+    requires free { IsNone (S.holds stage.old) }
+    requires room { HasRoom 0 (S.covers stage.old) }
+    ensures stays { (S.lent stage.new ≡ S.lent stage.old) × (S.fixed stage.new ≡ S.fixed stage.old) × (S.number stage.new ≡ S.number stage.old) × (S.is_desk stage.new ≡ S.is_desk stage.old) × (S.is_telling stage.new ≡ S.is_telling stage.old) }
+    ensures front { IsMarked (S.front stage.old) (S.front stage.new) stripe desk.now.noted result }
+    ensures free { Same (S.holds stage.new) (S.holds stage.old) }
+    ensures home { AreHome (S.front stage.old).config (S.tells stage.new) }
+{
+    let noted = desk.noted();
+    let mut part = take_stripe(stage, stripe);
+    if part.marked() == noted {
+        stage.give(PartName::Stripe(stripe), Part::Stripe(part));
+        return Marking::Idle;
+    }
+    stage.note(&Event::Marked {
+        stripe,
+        number: noted,
+    });
+    part.raise(noted);
+    stage.give(PartName::Stripe(stripe), Part::Stripe(part));
+    Marking::Raised(noted)
+}
+
+/// Ejects all values of a stripe that are stored. It takes no memory.
+pub(crate) fn page_once<S: Stage<Part = Part>>(stage: &mut S, stripe: u16) -> Paged
+    requires there { there (S.front stage.old).config (Stripe stripe) ≡ true }
+    requires telling { S.is_telling stage.old ≡ true }
+    requires home { AreHome (S.front stage.old).config (S.tells stage.old) }
+    requires free { IsNone (S.holds stage.old) }
+    ensures stays { (S.lent stage.new ≡ S.lent stage.old) × (S.fixed stage.new ≡ S.fixed stage.old) × (S.number stage.new ≡ S.number stage.old) × (S.is_desk stage.new ≡ S.is_desk stage.old) × (S.is_telling stage.new ≡ S.is_telling stage.old) }
+    ensures front { S.front stage.new ≡ S.front stage.old }
+    ensures paged { IsPaged (S.tells stage.old (Stripe stripe)) (S.tells stage.new (Stripe stripe)) result }
+    ensures free { Same (S.holds stage.new) (S.holds stage.old) }
+    ensures home { AreHome (S.front stage.old).config (S.tells stage.new) }
+{
+    let mut part = take_stripe(stage, stripe);
+    let (used, ejected) = part.page();
+    stage.give(PartName::Stripe(stripe), Part::Stripe(part));
+    Paged { used, ejected }
+}
+
+// Puts a queue's mutations into a batch, each in place of an earlier one of its key.
+fn fill(queue: &FlatQueue, batch: &mut Batch) -> Result<(), NoMemory>
+    ensures laid { OnOk result ((docs : Docs) → laid batch.new.rows docs ≡ laid_on (laid batch.old.rows docs) queue.now.items) }
+    ensures to { batch.new.to ≡ batch.old.to }
+    ensures maxcas { batch.new.maxcas ≡ batch.old.maxcas }
+{
+    for index in 0..queue.count() {
+        let item = queue.item(index);
+        let document = &item.document;
+        batch.add(&item.key, document.meta, &document.value)?;
+    }
+    Ok(())
+}
+
+/// Copies what isn't stored yet into a batch: none where all is stored.
+pub(crate) fn take_batch<S: Stage<Part = Part>, K: Keeper>(
+    alloc: Global,
+    desk: &Desk<K>,
+    stage: &mut S,
+) -> Result<Option<Batch>, NoMemory>
+    requires opened { (world_of (S.front stage.old)).opened ≡ true }
+    requires stored { desk.now.stored ≡ (world_of (S.front stage.old)).persisted }
+    requires telling { S.is_telling stage.old ≡ true }
+    requires home { AreHome (S.front stage.old).config (S.tells stage.old) }
+    requires free { IsNone (S.holds stage.old) }
+    ensures stays { (S.lent stage.new ≡ S.lent stage.old) × (S.fixed stage.new ≡ S.fixed stage.old) × (S.number stage.new ≡ S.number stage.old) × (S.is_desk stage.new ≡ S.is_desk stage.old) × (S.is_telling stage.new ≡ S.is_telling stage.old) }
+    ensures front { S.front stage.new ≡ S.front stage.old }
+    ensures taken { IfOk result (IsTaken (S.front stage.old) desk.now.stored) }
+    ensures free { Same (S.holds stage.new) (S.holds stage.old) }
+    ensures home { AreHome (S.front stage.old).config (S.tells stage.new) }
+{
+    let queue = take_queue(stage);
+    if queue.high() == queue.persisted() {
+        stage.give(PartName::Queue, Part::Queue(queue));
+        return Ok(None);
+    }
+    let mut batch = Batch::new(alloc, queue.high(), queue.maxcas());
+    let filled = fill(&queue, &mut batch);
+    stage.give(PartName::Queue, Part::Queue(queue));
+    match filled {
+        Ok(()) => Ok(Some(batch)),
+        Err(NoMemory) => Err(NoMemory),
+    }
+}
+
+/// Commits a batch, and notes that where it is done.
+pub(crate) fn commit_batch<S: Stage<Part = Part>>(
+    alloc: Global,
+    desk: &mut Desk<MemoryKeeper>,
+    stage: &mut S,
+    batch: &Batch,
+) -> Flushed
+    requires sure { desk.old.doubt ≡ None }
+    requires desk { DeskStands (S.front stage.old) desk.old.keeper.content desk.old.stored None desk.old.noted desk.old.read_faults }
+    requires known { desk.old.stored ≡ (world_of (S.front stage.old)).persisted }
+    requires batch { BatchStands (S.front stage.old) desk.old.stored batch.now }
+    requires within { AreWithin batch.now.rows }
+    requires legal { IsLegal (S.front stage.old) }
+    requires is_desk { S.is_desk stage.old ≡ true }
+    requires telling { S.is_telling stage.old ≡ true }
+    requires home { AreHome (S.front stage.old).config (S.tells stage.old) }
+    requires free { IsNone (S.holds stage.old) }
+    requires room { HasRoom 0 (S.covers stage.old) }
+    ensures stays { (S.lent stage.new ≡ S.lent stage.old) × (S.fixed stage.new ≡ S.fixed stage.old) × (S.number stage.new ≡ S.number stage.old) × (S.is_desk stage.new ≡ S.is_desk stage.old) × (S.is_telling stage.new ≡ S.is_telling stage.old) }
+    ensures flushed { IsFlushed (S.front stage.old) (S.front stage.new) (Some desk.new.keeper.content) desk.old desk.new batch.now result }
+    ensures free { Same (S.holds stage.new) (S.holds stage.old) }
+    ensures home { AreHome (S.front stage.old).config (S.tells stage.new) }
+{
+    let number = batch.to();
+    let state = StoreState {
+        version: VERSION,
+        high: number,
+        maxcas: batch.maxcas(),
+    };
+    match desk.commit(alloc, batch, &state) {
+        Kept::Good(()) => {}
+        Kept::Failed => return Flushed::Failed,
+        Kept::NoMemory => return Flushed::NoMemory,
+    }
+    let mut queue = take_queue(stage);
+    let mut part = take_desk(stage);
+    stage.note(&Event::Persisted { number });
+    queue.set_persisted(number);
+    part.persisted = number;
+    desk.set_noted();
+    stage.give(PartName::Desk, Part::Desk(part));
+    stage.give(PartName::Queue, Part::Queue(queue));
+    Flushed::Stored(number)
+}

@@ -1,0 +1,110 @@
+// A caller's turn: its next call is tried.
+ghost use Rattle.std.specs.Prelude.{◌≡◌, ◌+◌, ◌^◌, ◌<◌, length, Some, None, IfOk, OnErr};
+ghost use Rattle.std.specs.List.{AllByRecursion};
+ghost use Rattle.ep_model.specs.declared.limits.TheConstants.{MAX_VALUE};
+ghost use Rattle.vb_world.specs.World.{front_in, Sound};
+ghost use Rattle.ep_drill.specs.Parts.{part_stands};
+ghost use Rattle.ep_drill.specs.Callers.{CallerStands, caller_data, after_step, refusal, tried_of};
+ghost use Rattle.ep_drill.specs.Core.{IsOn, Ready, Rested, Turned};
+
+use crate::choice::Tried;
+use crate::flat::data::Step;
+use crate::owned::Caller;
+use crate::part::Part;
+use crate::worked::try_loaded;
+use ep_model::{Cause, Config, NoMemory, Out, Reply};
+use std::alloc::Global;
+use vb_world::World;
+
+/// The status of a call that is refused for now.
+const TEMPORARY_FAILURE: u16 = 0x86;
+
+/// The status of a call for which memory is wanting.
+const OUT_OF_MEMORY: u16 = 0x82;
+
+// What a caller is told of a refusal.
+fn refusal(cause: Cause) -> Reply
+    ensures { result ≡ refusal cause }
+{
+    let status = match cause {
+        Cause::Memory(_) => OUT_OF_MEMORY,
+        Cause::Quota | Cause::Warming | Cause::Store(_) => TEMPORARY_FAILURE,
+    };
+    Reply {
+        status,
+        cas: 0,
+        flags: 0,
+        uuid: 0,
+        seqno: 0,
+    }
+}
+
+/// What a caller is told of what its call came to.
+pub(crate) fn tried_of(step: Step) -> Tried
+    ensures { result ≡ tried_of step }
+{
+    match step {
+        Step::Done(reply) => Tried::Done(reply),
+        Step::Refused(cause) => Tried::Done(refusal(cause)),
+        Step::Fetch(ticket) => Tried::Fetch(ticket),
+        Step::FetchFull => Tried::FetchFull,
+    }
+}
+
+// A caller after its next call came to this.
+fn advance(caller: &mut Caller, step: Step)
+    requires { caller.old.answered < length caller.old.calls.items }
+    ensures { caller_data caller.new ≡ after_step step (caller_data caller.old) }
+{
+    match step {
+        Step::Done(_) | Step::Refused(_) => {
+            caller.answered += 1;
+            caller.prior = None;
+        }
+        Step::Fetch(ticket) => caller.prior = Some(ticket),
+        Step::FetchFull => {}
+    }
+}
+
+/// Tries a caller's next call: none where all are answered. Where memory is wanting nothing was noted.
+pub(crate) fn try_next(
+    alloc: Global,
+    config: &Config,
+    world: &mut World<Part>,
+    number: u64,
+    caller: &mut Caller,
+    now: u64,
+    value: &mut Out,
+) -> Result<Option<Step>, NoMemory>
+    requires ready { Ready config.now world.old }
+    requires sound { Sound part_stands world.old }
+    requires stands { CallerStands (front_in world.old) number (caller_data caller.old) }
+    requires loaded { AllByRecursion (IsOn config.now) (caller_data caller.old).calls }
+    requires moment { now < 2 ^ 62 }
+    requires value { value.old.spare + length value.old.bytes ≡ MAX_VALUE }
+    ensures ok { IfOk result (Turned config.now number now world.old world.new (caller_data caller.old) (caller_data caller.new) value.new.bytes) }
+    ensures err { OnErr result (Rested config.now world.old world.new × (caller_data caller.new ≡ caller_data caller.old)) }
+    ensures sound { Sound part_stands world.new }
+    ensures value { value.new.spare + length value.new.bytes ≡ MAX_VALUE }
+{
+    let Some(loaded) = caller.calls.get(caller.answered) else {
+        return Ok(None);
+    };
+    value.cut(0);
+    match try_loaded(
+        alloc,
+        config,
+        world,
+        number,
+        loaded,
+        now,
+        caller.prior,
+        value,
+    ) {
+        Ok(step) => {
+            advance(caller, step);
+            Ok(Some(step))
+        }
+        Err(NoMemory) => Err(NoMemory),
+    }
+}

@@ -1,0 +1,174 @@
+// Steps at one vBucket of a world, each with room for the event that it notes.
+ghost use Rattle.std.specs.Prelude.{◌≡◌, ◌+◌, ◌^◌, ◌<◌, ◌≤◌, ℕ, [], length, Some, None, IfSome, IfOk, OnErr};
+ghost use Rattle.ep_model.specs.declared.call.StoreKind.TheVariants.{Set as SetKind};
+ghost use Rattle.ep_model.specs.declared.data.CallData.TheVariants.{Get as GetData, Store as StoreData};
+ghost use Rattle.ep_model.specs.declared.event.PartName.TheVariants.{Stripe};
+ghost use Rattle.ep_model.specs.declared.limits.TheConstants.{MAX_VALUE};
+ghost use Rattle.ep_model.specs.Front.{world_of};
+ghost use Rattle.ep_model.specs.Limits.{IsKey, IsValue};
+ghost use Rattle.vb_world.specs.World.{front_in, part_in, Sound};
+ghost use Rattle.ep_drill.specs.Parts.{part_stands};
+ghost use Rattle.ep_drill.specs.Stands.{PriorsStand};
+ghost use Rattle.ep_drill.specs.Calls.{event_of};
+ghost use Rattle.ep_drill.specs.Answers.{IsMarked, IsPaged};
+ghost use Rattle.ep_drill.specs.Callers.{owned_data};
+ghost use Rattle.ep_drill.specs.Core.{bench_data, BenchStands, Ready, Moved, Worked};
+
+use crate::bench::Bench;
+use crate::flat::data::Step;
+use crate::owned::{Loaded, OwnedCall, OwnedKey, OwnedSet};
+use crate::part::Part;
+use crate::store::{Marking, Paged, mark_once, page_once};
+use crate::tried::{EVENT_BYTES, try_get, try_set};
+use ep_model::{Config, NoMemory, Out, Ticket};
+use std::alloc::Global;
+use vb_world::World;
+
+/// The number of whoever works on the store, which is no caller's.
+pub(crate) const WORKER: u64 = u64::MAX;
+
+// Tries a Get.
+fn get_at(
+    alloc: Global,
+    config: &Config,
+    world: &mut World<Part>,
+    vb: u16,
+    number: u64,
+    key: &OwnedKey,
+    now: u64,
+    prior: Option<Ticket>,
+    value: &mut Out,
+) -> Result<Step, NoMemory>
+    requires ready { Ready config.now world.old }
+    requires vb { vb < config.now.vbuckets }
+    requires prior { PriorsStand (front_in world.old vb) number (GetData key.now.bytes.items) prior }
+    requires value { (value.old.bytes ≡ []) × (value.old.spare ≡ MAX_VALUE) }
+    ensures ok { IfOk result (λ step. Moved config.now vb (event_of number (GetData key.now.bytes.items) now prior value.new.bytes step) world.old world.new) }
+    ensures err { OnErr result (Moved config.now vb None world.old world.new) }
+    ensures sound { Sound part_stands world.new }
+    ensures value { value.new.spare + length value.new.bytes ≡ MAX_VALUE }
+{
+    if world.reserve(1, EVENT_BYTES).is_err() {
+        return Err(NoMemory);
+    }
+    let mut stage = world.stage(vb, number);
+    let step = try_get(
+        alloc,
+        &mut stage,
+        config.stripes,
+        &key.bytes,
+        now,
+        prior,
+        value,
+    );
+    let _count = world.count();
+    step
+}
+
+// Tries a Set.
+fn set_at(
+    alloc: Global,
+    config: &Config,
+    world: &mut World<Part>,
+    vb: u16,
+    number: u64,
+    call: &OwnedSet,
+    now: u64,
+    prior: Option<Ticket>,
+) -> Result<Step, NoMemory>
+    requires ready { Ready config.now world.old }
+    requires vb { vb < config.now.vbuckets }
+    requires moment { now < 2 ^ 62 }
+    ensures ok { IfOk result (λ step. Moved config.now vb (event_of number (StoreData SetKind call.now.key.bytes.items call.now.value.items call.now.flags call.now.expiration call.now.cas) now prior [] step) world.old world.new) }
+    ensures err { OnErr result (Moved config.now vb None world.old world.new) }
+    ensures sound { Sound part_stands world.new }
+{
+    if world.reserve(1, EVENT_BYTES).is_err() {
+        return Err(NoMemory);
+    }
+    let mut stage = world.stage(vb, number);
+    let step = try_set(
+        alloc,
+        &mut stage,
+        config,
+        prior,
+        &call.key.bytes,
+        &call.value,
+        call.flags,
+        call.expiration,
+        call.cas,
+        now,
+    );
+    let _count = world.count();
+    step
+}
+
+/// Tries a call of the caller `number`, whose value ends up in `value`. Where memory is wanting the parts and the
+/// history are as they were.
+pub(crate) fn try_loaded(
+    alloc: Global,
+    config: &Config,
+    world: &mut World<Part>,
+    number: u64,
+    loaded: &Loaded,
+    now: u64,
+    prior: Option<Ticket>,
+    value: &mut Out,
+) -> Result<Step, NoMemory>
+    requires ready { Ready config.now world.old }
+    requires vb { loaded.now.vb < config.now.vbuckets }
+    requires prior { PriorsStand (front_in world.old loaded.now.vb) number (owned_data loaded.now.call) prior }
+    requires moment { now < 2 ^ 62 }
+    requires value { (value.old.bytes ≡ []) × (value.old.spare ≡ MAX_VALUE) }
+    ensures ok { IfOk result (λ step. Moved config.now loaded.now.vb (event_of number (owned_data loaded.now.call) now prior value.new.bytes step) world.old world.new) }
+    ensures err { OnErr result (Moved config.now loaded.now.vb None world.old world.new) }
+    ensures sound { Sound part_stands world.new }
+    ensures value { value.new.spare + length value.new.bytes ≡ MAX_VALUE }
+{
+    let vb = loaded.vb;
+    match &loaded.call {
+        OwnedCall::Get(key) => get_at(alloc, config, world, vb, number, key, now, prior, value),
+        OwnedCall::Set(call) => set_at(alloc, config, world, vb, number, call, now, prior),
+    }
+}
+
+/// Tells a stripe what is stored.
+pub(crate) fn mark_at(
+    config: &Config,
+    world: &mut World<Part>,
+    vb: u16,
+    bench: &Bench,
+    stripe: u16,
+) -> Result<Marking, NoMemory>
+    requires ready { Ready config.now world.old }
+    requires vb { vb < config.now.vbuckets }
+    requires stripe { stripe < config.now.stripes }
+    requires bench { BenchStands (front_in world.old vb) (bench_data bench.now) }
+    ensures ok { IfOk result (λ marking. IsMarked (front_in world.old vb) (front_in world.new vb) stripe (bench_data bench.now).desk.noted marking) }
+    ensures worked { Worked config.now vb world.old world.new }
+    ensures bench { BenchStands (front_in world.new vb) (bench_data bench.now) }
+    ensures sound { Sound part_stands world.new }
+{
+    if world.reserve(1, 0).is_err() {
+        return Err(NoMemory);
+    }
+    let mut stage = world.stage(vb, WORKER);
+    let marking = mark_once(&bench.desk, &mut stage, stripe);
+    let _count = world.count();
+    Ok(marking)
+}
+
+/// Ejects all values of a stripe that are stored.
+pub(crate) fn page_at(config: &Config, world: &mut World<Part>, vb: u16, stripe: u16) -> Paged
+    requires ready { Ready config.now world.old }
+    requires vb { vb < config.now.vbuckets }
+    requires stripe { stripe < config.now.stripes }
+    ensures paged { IsPaged (part_in world.old vb (Stripe stripe)) (part_in world.new vb (Stripe stripe)) result }
+    ensures worked { Moved config.now vb None world.old world.new }
+    ensures sound { Sound part_stands world.new }
+{
+    let mut stage = world.stage(vb, WORKER);
+    let paged = page_once(&mut stage, stripe);
+    let _count = world.count();
+    paged
+}
