@@ -5,7 +5,8 @@ use Rattle.std.specs.Option.{option_map}
 use Rattle.std.specs.List.{AllByRecursion}
 use Rattle.std.proofs.lemmas.Bool.{cases_eq}
 use Rattle.std.proofs.lemmas.List.{append-nil, append_assoc, map-set}
-use Rattle.std.proofs.lemmas.Option.{slice_get-map, slice_get_read}
+use Rattle.std.proofs.lemmas.Option.{slice_get-map, slice_get_read, slice_get_within}
+use Rattle.vb_world.proofs.Lists.{get_set, map-set_kept}
 use Rattle.ep_model.specs.declared.config.Config.{Config}
 use Rattle.ep_model.specs.declared.data.CallData.{CallData}
 use Rattle.ep_model.specs.declared.data.EventData.{EventData}
@@ -20,8 +21,9 @@ use Rattle.ep_drill.specs.declared.data.CoreData.{CoreData}
 use Rattle.ep_drill.specs.declared.flat.data.Step.{Step}
 use Rattle.ep_drill.specs.Parts.{part_stands}
 use Rattle.ep_drill.specs.Calls.{event_of, noted}
-use Rattle.ep_drill.specs.Callers.{CallerStands, caller_data, after_step}
-use Rattle.ep_drill.specs.Core.{IsOn, Ready, Moved, Rested, Turned, Interleaves, Continues, GoesOn, calls_of, core_data}
+use Rattle.ep_drill.specs.Callers.{CallerStands, caller_data, after_step, tried_of}
+use Rattle.ep_drill.specs.Core.{IsOn, Ready, Moved, Rested, Turned, Interleaves, Continues, GoesOn, calls_of, core_data, WasTried, IsFronted, answer_of}
+use Rattle.ep_drill.specs.Core.IsIdle.{NoCall}
 use Rattle.ep_drill.proofs.CoreLemmas.{core_tried, core_rested, calls_same}
 
 -- a history with an event more, or with none, goes on
@@ -147,3 +149,36 @@ lent_at xs n i x count within is = slice_get_read xs n i x count within is
 -- where nothing was done, the core is as it should be and goes on
 pub kept_still : (core old : CoreData) → core ≡ old → Interleaves core → Interleaves old × GoesOn old old
 kept_still core old is i = (subst (λ (k : CoreData). Interleaves k) is i, goes_on_refl old)
+
+-- what a core answers of a caller's turn
+pub fronted_at : {E : Type 0} (old : CoreData) (config : Config) (w z : WorldData Part) (benches : List Bench) (callers : List Caller) (place number told now : ℕ) (caller after : Caller) (value : List ℕ)
+    (result : Result (Option Step) E) → core_data config w benches callers ≡ old → place ≡ told → number ≡ told → slice_get callers place ≡ Some caller
+    → IfOk result (Turned config number now w z (caller_data caller) (caller_data after) value) → IfOk (answer_of result) (IsFronted old (core_data config z benches (slice_set callers place after)) told now)
+fronted_at old config w z benches callers place number told now caller after value (Err e) is here its at ok = tt
+fronted_at old config w z benches callers place number told now caller after value (Ok None) is here its at ok =
+    let first : CoreData = core_data config w benches callers in
+    let kept : map caller_data (slice_set callers place after) ≡ map caller_data callers =
+    map-set_kept caller_data callers place after (λ x found. let e : caller ≡ x = cc in ok.1 ∙ ap caller_data e) in
+    let same : core_data config z benches (slice_set callers place after) ≡ first =
+    ap (λ (l : List CallerData). record first { world = z; callers = l }) kept ∙ ap (λ (k : WorldData Part). record first { world = k }) ok.0 in (
+      same ∙ is,
+      NoCall (caller_data caller) (subst (λ (k : ℕ). slice_get old.callers k ≡ Some (caller_data caller)) here
+          (subst (λ (o : CoreData). slice_get o.callers place ≡ Some (caller_data caller)) is (get_told caller_data callers place caller at))) ok.2,
+    )
+fronted_at old config w z benches callers place number told now caller after value (Ok (Some step)) is here its at ok =
+    let first : CoreData = core_data config w benches callers in
+    let last : CoreData = core_data config z benches (slice_set callers place after) in
+    let set : slice_get (slice_set callers place after) place ≡ Some after = get_set callers place after (slice_get_within callers place caller at) in
+    let tried : WasTried first last told now (tried_of step) = record {
+      caller = caller_data caller;
+      call = ok.0;
+      step = step;
+      value = value;
+      before = subst (λ (k : ℕ). slice_get first.callers k ≡ Some (caller_data caller)) here (get_told caller_data callers place caller at);
+      next = ok.1;
+      told = refl;
+      moved = subst (λ (k : ℕ). Moved config ok.0.0 (event_of k ok.0.1 now caller.prior value step) w z) its ok.2;
+      behind = subst (λ (k : ℕ). slice_get last.callers k ≡ Some (after_step step (caller_data caller))) here
+          (subst (λ (y : CallerData). slice_get last.callers place ≡ Some y) ok.3 (get_told caller_data (slice_set callers place after) place after set));
+    } in
+    subst (λ (o : CoreData). WasTried o last told now (tried_of step)) is tried

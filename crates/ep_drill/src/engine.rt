@@ -2,7 +2,7 @@
 ghost use Rattle.std.specs.Prelude.{◌≡◌, ◌+◌, length, map, Some, None, IfOk, OnOk, OnErr};
 ghost use Rattle.ep_model.specs.declared.limits.TheConstants.{MAX_VALUE};
 ghost use Rattle.ep_drill.specs.Callers.{caller_data};
-ghost use Rattle.ep_drill.specs.Core.{bench_data, core_data, Interleaves, GoesOn};
+ghost use Rattle.ep_drill.specs.Core.{core_data, Interleaves, IsFronted, IsPagedAt, GoesOn, Stepped};
 
 use crate::bench::Bench;
 use crate::choice::{Answer, StepChoice};
@@ -10,7 +10,7 @@ use crate::owned::Caller;
 use crate::part::Part;
 use crate::store::Flushed;
 use crate::stored::{commit_at, merge_at, read_at, take_at};
-use crate::turn::{tried_of, try_next};
+use crate::turn::{answer_of, try_next};
 use crate::worked::{mark_at, page_at};
 use ep_model::{Config, NoMemory, Out};
 use std::alloc::Global;
@@ -53,6 +53,7 @@ impl Core {
     fn front(&mut self, alloc: Global, number: u16, now: u64) -> Result<Answer, NoMemory>
         ensures interleaves { Interleaves self.new }
         ensures goes_on { GoesOn self.old self.new }
+        ensures fronted { IfOk result (IsFronted self.old self.new number now) }
     {
         let Some(caller) = self.callers.get_mut(usize::from(number)) else {
             return Ok(Answer::Nothing);
@@ -69,11 +70,7 @@ impl Core {
             now,
             &mut self.value,
         );
-        match tried {
-            Ok(Some(step)) => Ok(Answer::Tried(tried_of(step))),
-            Ok(None) => Ok(Answer::Nothing),
-            Err(NoMemory) => Err(NoMemory),
-        }
+        answer_of(tried)
     }
 
     // Copies what isn't stored yet.
@@ -129,6 +126,7 @@ impl Core {
     fn page(&mut self, vb: u16, stripe: u16) -> Answer
         ensures interleaves { Interleaves self.new }
         ensures goes_on { GoesOn self.old self.new }
+        ensures paged { IsPagedAt self.old self.new vb stripe result }
     {
         if vb >= self.config.vbuckets || stripe >= self.config.stripes {
             return Answer::Nothing;
@@ -186,6 +184,7 @@ impl Core {
     pub fn step(&mut self, alloc: Global, choice: StepChoice) -> Result<Answer, NoMemory>
         ensures interleaves { Interleaves self.new }
         ensures goes_on { GoesOn self.old self.new }
+        ensures stepped { IfOk result (Stepped self.old self.new choice) }
     {
         let _ = &self.config;
         match choice {

@@ -5,9 +5,9 @@ ghost use Rattle.ep_model.specs.declared.limits.TheConstants.{MAX_VALUE};
 ghost use Rattle.vb_world.specs.World.{front_in, Sound};
 ghost use Rattle.ep_drill.specs.Parts.{part_stands};
 ghost use Rattle.ep_drill.specs.Callers.{CallerStands, caller_data, after_step, refusal, tried_of};
-ghost use Rattle.ep_drill.specs.Core.{IsOn, Ready, Rested, Turned};
+ghost use Rattle.ep_drill.specs.Core.{answer_of, IsOn, Ready, Rested, Turned};
 
-use crate::choice::Tried;
+use crate::choice::{Answer, Tried};
 use crate::flat::data::Step;
 use crate::owned::Caller;
 use crate::part::Part;
@@ -39,8 +39,8 @@ fn refusal(cause: Cause) -> Reply
     }
 }
 
-/// What a caller is told of what its call came to.
-pub(crate) fn tried_of(step: Step) -> Tried
+// What a caller is told of what its call came to.
+fn tried_of(step: Step) -> Tried
     ensures { result ≡ tried_of step }
 {
     match step {
@@ -48,6 +48,17 @@ pub(crate) fn tried_of(step: Step) -> Tried
         Step::Refused(cause) => Tried::Done(refusal(cause)),
         Step::Fetch(ticket) => Tried::Fetch(ticket),
         Step::FetchFull => Tried::FetchFull,
+    }
+}
+
+/// What a core answers of a caller's turn.
+pub(crate) fn answer_of(tried: Result<Option<Step>, NoMemory>) -> Result<Answer, NoMemory>
+    ensures { result ≡ answer_of tried }
+{
+    match tried {
+        Ok(Some(step)) => Ok(Answer::Tried(tried_of(step))),
+        Ok(None) => Ok(Answer::Nothing),
+        Err(NoMemory) => Err(NoMemory),
     }
 }
 
