@@ -42,7 +42,7 @@ moved_continues config vb event w z moved u =
     ]
 
 -- the bench that stands in the list, as plain data
-bench_at : (benches : List Bench) (vb : ℕ) (bench : Bench) → slice_get benches vb ≡ Some bench → slice_get (map bench_data benches) vb ≡ Some (bench_data bench)
+pub bench_at : (benches : List Bench) (vb : ℕ) (bench : Bench) → slice_get benches vb ≡ Some bench → slice_get (map bench_data benches) vb ≡ Some (bench_data bench)
 bench_at benches vb bench at = slice_get-map bench_data benches vb ∙ ap (λ (o : Option Bench). option_map bench_data o) at
 
 -- What a step at a bench may rely on: the bench stands, and its vBucket is there.

@@ -24,6 +24,8 @@ pub mod OpenLemmas
 pub mod AddLemmas
 pub mod TurnLemmas
 pub mod MergedLemmas
+pub mod BenchedLemmas
 pub mod StartLemmas
 pub mod EngineLemmas
+pub mod SteppedLemmas
 pub mod BenchesLemmas

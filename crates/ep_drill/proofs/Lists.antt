@@ -60,3 +60,9 @@ module _ {D : Type 0} where
   swept-all g [] (suc n) h = refl
   swept-all g (d ∷ ds) zero h = absurd (omega arith)
   swept-all g (d ∷ ds) (suc n) h = ap (λ (ds : List D). g d ∷ ds) (swept-all g ds n (omega arith))
+
+-- a list with an element replaced by itself
+pub set_same : {A : Type 0} (xs : List A) (i : ℕ) (x : A) → slice_get xs i ≡ Some x → set xs i x ≡ xs
+set_same [] i x is = refl
+set_same (z ∷ xs) zero x is = let e : z ≡ x = cc in ap (λ y. y ∷ xs) (sym e)
+set_same (z ∷ xs) (suc i) x is = ap (λ l. z ∷ l) (set_same xs i x is)

@@ -1,11 +1,12 @@
 -- What a commit and a merge at a bench of a world leave of both.
-use Rattle.std.proofs.Common.{◌≡◌, ◌<◌, ℕ, zero, suc, List, [], ◌∷◌, length, map, slice_get, slice_set, slice_index_or, nat_lt, true, refl, sym, ap, subst, ◌∙◌, arith}
+use Rattle.std.proofs.Common.{◌≡◌, ◌<◌, ℕ, zero, suc, List, [], ◌∷◌, length, map, slice_get, slice_set, slice_index_or, nat_lt, true, false, refl, sym, ap, subst, ◌∙◌, arith}
 use Rattle.std.specs.Prelude.{Option, Some, None, IfSome}
 use Rattle.std.specs.Option.{option_map}
 use Rattle.std.proofs.lemmas.Bool.Decides.{nat_tests}
 use Rattle.ep_model.specs.declared.config.Config.{Config}
 use Rattle.ep_model.specs.declared.data.EventData.TheVariants as events
 use Rattle.ep_model.specs.declared.data.FrontData.{FrontData}
+use Rattle.ep_model.specs.declared.event.Ticket.{Ticket}
 use Rattle.ep_model.specs.Front.{world_of}
 use Rattle.ep_model.specs.Legal.{IsLegal}
 use Rattle.hold_stage.specs.Touches.{is_call}
@@ -24,12 +25,15 @@ use Rattle.ep_drill.specs.declared.fetched.Fetched.{Fetched}
 use Rattle.ep_drill.specs.declared.store.Flushed.{Flushed}
 use Rattle.ep_drill.specs.declared.store.Flushed.TheVariants as flushes
 use Rattle.ep_drill.specs.declared.flat.data.FetchedData.{FetchedData}
+use Rattle.ep_drill.specs.declared.flat.data.FoundData.{FoundData}
+use Rattle.ep_drill.specs.declared.flat.data.FoundData.TheVariants as founds
 use Rattle.ep_drill.specs.Parts.{part_stands}
 use Rattle.ep_drill.specs.Calls.{AreHome}
 use Rattle.ep_drill.specs.Answers.{IsFlushed}
 use Rattle.ep_drill.specs.Fetches.{fetched_data, IsMerged}
 use Rattle.ep_drill.specs.Stands.{DeskStands, BatchStands, FetchedStands}
-use Rattle.ep_drill.specs.Core.{BenchStands, Ready, Worked}
+use Rattle.ep_drill.specs.Core.{BenchStands, Ready, Moved, Worked}
+use Rattle.ep_drill.specs.Works.{persisted_by, failure_of, failed_by}
 use Rattle.ep_drill.proofs.BenchLemmas.{bench_committed, bench_kept, bench_merged}
 use Rattle.ep_drill.proofs.WorkedLemmas.{moved_with_room, worked_by}
 
@@ -40,7 +44,7 @@ set_mapped g (y ∷ xs) zero x = refl
 set_mapped g (y ∷ xs) (suc n) x = ap (λ l. g y ∷ l) (set_mapped g xs n x)
 
 -- what stands at an index of a list that is mapped
-get_mapped : {A B : Type 0} (g : A → B) (xs : List A) (n : ℕ) (d x : A) → n < length (map g xs) → slice_index_or xs n d ≡ x → slice_get (map g xs) n ≡ Some (g x)
+pub get_mapped : {A B : Type 0} (g : A → B) (xs : List A) (n : ℕ) (d x : A) → n < length (map g xs) → slice_index_or xs n d ≡ x → slice_get (map g xs) n ≡ Some (g x)
 get_mapped g [] n d x there is = absurd (omega arith)
 get_mapped g (y ∷ xs) zero d x there is = ap (λ k. Some (g k)) is
 get_mapped g (y ∷ xs) (suc n) d x there is = get_mapped g xs n d x (omega arith) is
@@ -51,6 +55,28 @@ pub read_at_stripe : (f : FrontData) (bench : BenchData) (reads : List (Option F
 read_at_stripe f bench reads stripe found fetched b same there at is =
     let long : length (map (option_map fetched_data) reads) ≡ f.config.stripes = ap (λ (l : List (Option FetchedData)). length l) (sym same) ∙ b.count in
     ap (λ (l : List (Option FetchedData)). slice_get l stripe) same ∙ get_mapped (option_map fetched_data) reads stripe found (Some fetched) (omega arith) (sym at ∙ is)
+
+-- what a commit notes is no event of a call
+persisted_quiet : (batch : BatchData) (flushed : Flushed) → IfSome (persisted_by batch flushed) (λ e. is_call e ≡ false)
+unfolding is_call
+persisted_quiet batch (flushes.Stored number) = refl
+persisted_quiet batch flushes.Failed = tt
+persisted_quiet batch flushes.NoMemory = tt
+
+-- nor is a read that failed
+failure_quiet : (ticket : Ticket) (found : FoundData) → IfSome (failure_of ticket found) (λ e. is_call e ≡ false)
+unfolding is_call
+failure_quiet ticket (founds.Row doc) = tt
+failure_quiet ticket founds.Absent = tt
+failure_quiet ticket (founds.Failed fault) = refl
+failure_quiet ticket founds.NoMemory = tt
+
+failed_quiet : (fetched : FetchedData) (merging : Merging) → IfSome (failed_by fetched merging) (λ e. is_call e ≡ false)
+failed_quiet fetched mergings.Merged = tt
+failed_quiet fetched mergings.Absent = tt
+failed_quiet fetched mergings.Stale = tt
+failed_quiet fetched mergings.Failed = failure_quiet fetched.ticket fetched.found
+failed_quiet fetched mergings.NoMemory = tt
 
 module _ (a r s z : WorldData Part) (vb sv zv n m : ℕ) where
   -- the history where a stage begins
@@ -66,33 +92,42 @@ module _ (a r s z : WorldData Part) (vb sv zv n m : ℕ) where
   legal_begun room sound = subst IsLegal (ap (λ (k : WorldData Part). front_in k vb) room) (sound.legal vb)
 
   module _ (config : Config) where
+    -- A commit notes that it was done, and else nothing.
+    pub flushed_moved : (content : Option Content) (old now : DeskData MemoryData) (batch : BatchData) (flushed : Flushed) → Ready config a → vb < config.vbuckets → r ≡ record a { event_room = n; byte_room = m } → s ≡ r → sv ≡ vb
+        → fixed_in z zv ≡ fixed_in s sv → AreHome (front_in s sv).config (part_in z zv) → IsFlushed (front_in s sv) (front_in z zv) content old now batch flushed → Moved config vb (persisted_by batch flushed) a z
+    flushed_moved content old now batch (flushes.Stored number) ready within room w at fixed home is =
+        let e = Some (events.Persisted batch.to) in
+        moved_with_room config a r s z vb sv zv e e n m ready within room w at fixed home is.1 refl
+    flushed_moved content old now batch flushes.Failed ready within room w at fixed home is =
+        moved_with_room config a r s z vb sv zv None None n m ready within room w at fixed home is.0 refl
+    flushed_moved content old now batch flushes.NoMemory ready within room w at fixed home is =
+        moved_with_room config a r s z vb sv zv None None n m ready within room w at fixed home is.0 refl
+
     -- A commit is work at its vBucket.
     pub flushed_at : (content : Option Content) (old now : DeskData MemoryData) (batch : BatchData) (flushed : Flushed) → Ready config a → vb < config.vbuckets → r ≡ record a { event_room = n; byte_room = m } → s ≡ r → sv ≡ vb
         → fixed_in z zv ≡ fixed_in s sv → AreHome (front_in s sv).config (part_in z zv) → IsFlushed (front_in s sv) (front_in z zv) content old now batch flushed → Worked config vb a z
-    unfolding is_call
-    flushed_at content old now batch (flushes.Stored number) ready within room w at fixed home is =
-        let e = Some (events.Persisted batch.to) in
-        worked_by config a z vb e (moved_with_room config a r s z vb sv zv e e n m ready within room w at fixed home is.1 refl) refl
-    flushed_at content old now batch flushes.Failed ready within room w at fixed home is =
-        worked_by config a z vb None (moved_with_room config a r s z vb sv zv None None n m ready within room w at fixed home is.0 refl) tt
-    flushed_at content old now batch flushes.NoMemory ready within room w at fixed home is =
-        worked_by config a z vb None (moved_with_room config a r s z vb sv zv None None n m ready within room w at fixed home is.0 refl) tt
+    flushed_at content old now batch flushed ready within room w at fixed home is =
+        worked_by config a z vb (persisted_by batch flushed) (flushed_moved content old now batch flushed ready within room w at fixed home is) (persisted_quiet batch flushed)
+
+    -- A merge notes a read that failed, and else nothing.
+    pub merged_moved : (part left : Option Part) (fetched : FetchedData) (merging : Merging) → Ready config a → vb < config.vbuckets → r ≡ record a { event_room = n; byte_room = m } → s ≡ r → sv ≡ vb
+        → fixed_in z zv ≡ fixed_in s sv → AreHome (front_in s sv).config (part_in z zv) → IsMerged (front_in s sv) (front_in z zv) part left fetched merging → Moved config vb (failed_by fetched merging) a z
+    merged_moved part left fetched mergings.Merged ready within room w at fixed home is =
+        moved_with_room config a r s z vb sv zv None None n m ready within room w at fixed home is.0 refl
+    merged_moved part left fetched mergings.Absent ready within room w at fixed home is =
+        moved_with_room config a r s z vb sv zv None None n m ready within room w at fixed home is.0 refl
+    merged_moved part left fetched mergings.Stale ready within room w at fixed home is =
+        moved_with_room config a r s z vb sv zv None None n m ready within room w at fixed home is.0 refl
+    merged_moved part left fetched mergings.Failed ready within room w at fixed home is =
+        moved_with_room config a r s z vb sv zv (failure_of fetched.ticket fetched.found) (Some (events.ReadFailed fetched.ticket is.0)) n m ready within room w at fixed home is.2 (sym (ap (λ (found : FoundData). failure_of fetched.ticket found) is.1))
+    merged_moved part left fetched mergings.NoMemory ready within room w at fixed home is =
+        moved_with_room config a r s z vb sv zv None None n m ready within room w at fixed home is.0 refl
 
     -- A merge is work at its vBucket.
     pub merged_at : (part left : Option Part) (fetched : FetchedData) (merging : Merging) → Ready config a → vb < config.vbuckets → r ≡ record a { event_room = n; byte_room = m } → s ≡ r → sv ≡ vb
         → fixed_in z zv ≡ fixed_in s sv → AreHome (front_in s sv).config (part_in z zv) → IsMerged (front_in s sv) (front_in z zv) part left fetched merging → Worked config vb a z
-    unfolding is_call
-    merged_at part left fetched mergings.Merged ready within room w at fixed home is =
-        worked_by config a z vb None (moved_with_room config a r s z vb sv zv None None n m ready within room w at fixed home is.0 refl) tt
-    merged_at part left fetched mergings.Absent ready within room w at fixed home is =
-        worked_by config a z vb None (moved_with_room config a r s z vb sv zv None None n m ready within room w at fixed home is.0 refl) tt
-    merged_at part left fetched mergings.Stale ready within room w at fixed home is =
-        worked_by config a z vb None (moved_with_room config a r s z vb sv zv None None n m ready within room w at fixed home is.0 refl) tt
-    merged_at part left fetched mergings.Failed ready within room w at fixed home is =
-        let e = Some (events.ReadFailed fetched.ticket is.0) in
-        worked_by config a z vb e (moved_with_room config a r s z vb sv zv e e n m ready within room w at fixed home is.2 refl) refl
-    merged_at part left fetched mergings.NoMemory ready within room w at fixed home is =
-        worked_by config a z vb None (moved_with_room config a r s z vb sv zv None None n m ready within room w at fixed home is.0 refl) tt
+    merged_at part left fetched merging ready within room w at fixed home is =
+        worked_by config a z vb (failed_by fetched merging) (merged_moved part left fetched merging ready within room w at fixed home is) (failed_quiet fetched merging)
 
   -- What a commit needs of the bench, where its stage begins.
   pub commit_ready : (bench : BenchData) (batch : BatchData) → r ≡ record a { event_room = n; byte_room = m } → s ≡ r → sv ≡ vb → BenchStands (front_in a vb) bench → bench.batch ≡ Some batch

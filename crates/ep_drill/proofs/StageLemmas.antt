@@ -28,7 +28,7 @@ use Rattle.ep_drill.specs.declared.flat.data.StripeData.{StripeData}
 use Rattle.ep_drill.specs.declared.flat.data.QueueData.{QueueData}
 use Rattle.ep_drill.specs.declared.store.Flushed.TheVariants as flushes
 use Rattle.ep_drill.specs.Stands.{StripeStands, QueueStands, DeskStands, BatchStands}
-use Rattle.ep_drill.specs.Answers.{IsFlushed}
+use Rattle.ep_drill.specs.Answers.{IsTaken, IsFlushed}
 use Rattle.ep_drill.proofs.CallLemmas.{holds_stripe}
 use Rattle.ep_drill.proofs.StoreLemmas.{batch_taken}
 use Rattle.ep_drill.proofs.PartLemmas.{may_mark, marked_stands, may_persist, persisted_queue, persisted_desk, doubted_desk}
@@ -95,20 +95,23 @@ laid_more first rows more items i key other doc same before is key-is doc-is add
     ∙ sym (laid_append (laid first docs) (take i items) ((key, doc) ∷ []))
     ∙ sym (ap (laid_on (laid first docs)) (take_more items i (key, doc) is))
 
--- What a queue holds makes a batch that stands, where not all of it is stored.
+-- What a queue holds makes a batch that stands and goes up to the last mutation, where not all of it is stored.
 pub taken_stands : (f₀ f : FrontData) (stored high persisted top most : ℕ) (q : QueueData) (empty filled : BatchData)
     → f ≡ f₀ → (world_of f₀).opened ≡ true → stored ≡ (world_of f₀).persisted → IsLegal f → QueueStands f q → high ≡ q.high → persisted ≡ q.persisted → (high ≡ persisted → ⊥)
     → top ≡ q.high → most ≡ q.maxcas → empty ≡ empty_batch top most → filled.to ≡ empty.to → filled.maxcas ≡ empty.maxcas → ((docs : Docs) → laid filled.rows docs ≡ laid_on (laid empty.rows docs) q.items)
-    → BatchStands f₀ stored filled
+    → IsTaken f₀ stored (Some filled)
 taken_stands f₀ f stored high persisted top most q empty filled front opened is legal s high-is persisted-is differs top-is most-is begins to maxcas laid-is =
     let here : stored ≡ (world_of f).persisted = is ∙ sym (ap (λ (g : FrontData). (world_of g).persisted) front) in
     let bounds = (legal_bounds f legal).stored in
     let all = s.high in let known = s.persisted in
-    subst (λ (g : FrontData). BatchStands g stored filled) front
-    (batch_taken f q filled stored legal s (ap (λ (g : FrontData). (world_of g).opened) front ∙ opened) here (omega arith)
-    (to ∙ ap (λ (b : BatchData). b.to) begins ∙ top-is)
-    (maxcas ∙ ap (λ (b : BatchData). b.maxcas) begins ∙ most-is)
-    (λ docs. laid-is docs ∙ ap (λ (b : BatchData). laid_on (laid b.rows docs) q.items) begins))
+    let whole : filled.to ≡ q.high = to ∙ ap (λ (b : BatchData). b.to) begins ∙ top-is in (
+      subst (λ (g : FrontData). BatchStands g stored filled) front
+          (batch_taken f q filled stored legal s (ap (λ (g : FrontData). (world_of g).opened) front ∙ opened) here (omega arith)
+          whole
+          (maxcas ∙ ap (λ (b : BatchData). b.maxcas) begins ∙ most-is)
+          (λ docs. laid-is docs ∙ ap (λ (b : BatchData). laid_on (laid b.rows docs) q.items) begins)),
+      whole ∙ s.high ∙ ap (λ (g : FrontData). (world_of g).high) front,
+    )
 
 -- A commit, from what it says and what the taking of the queue and the desk says.
 module _ (f₀ f₁ f : FrontData) (stored faults told version number : ℕ) (batch : BatchData) (content : Content) (first : f₁ ≡ f₀) (second : f ≡ f₁) (to : number ≡ batch.to) (legal : IsLegal f₀)

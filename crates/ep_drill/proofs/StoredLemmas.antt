@@ -3,8 +3,6 @@ use Rattle.std.proofs.Common.{◌≡◌, ◌<◌, ℕ, zero, suc, false, List, [
 use Rattle.std.specs.Prelude.{Option, Some, None, IfSome}
 use Rattle.std.specs.Option.{option_map}
 use Rattle.ep_model.specs.declared.config.Config.{Config}
-use Rattle.ep_model.specs.declared.data.EventData.{EventData}
-use Rattle.ep_model.specs.declared.data.EventData.TheVariants as events
 use Rattle.ep_model.specs.declared.data.FrontData.{FrontData}
 use Rattle.ep_model.specs.Legal.{IsLegal}
 use Rattle.hold_stage.specs.Touches.{is_call, is_desks}
@@ -26,6 +24,7 @@ use Rattle.ep_drill.specs.Answers.{IsMarked, IsTaken}
 use Rattle.ep_drill.specs.Fetches.{fetched_data, DeskRead, IsRead}
 use Rattle.ep_drill.specs.Stands.{BatchStands}
 use Rattle.ep_drill.specs.Core.{BenchStands, Ready, Moved, Worked}
+use Rattle.ep_drill.specs.Works.{marked_by, WasMarked}
 use Rattle.ep_drill.proofs.BenchLemmas.{bench_noted, bench_taken, bench_asked, bench_read}
 use Rattle.ep_drill.proofs.WorkedLemmas.{moved_with_room, worked_by}
 
@@ -55,7 +54,7 @@ module _ (a s z : WorldData Part) (vb sv zv : ℕ) (w : s ≡ a) (at : sv ≡ vb
       → BenchStands (front_in z vb) (record bench { batch = Some batch })
   taken_some bench taken batch b sure is stands =
       let here : IsTaken (front_in s sv) bench.desk.stored (Some batch) = subst (λ (o : Option BatchData). IsTaken (front_in s sv) bench.desk.stored o) is stands in
-      bench_still (record bench { batch = Some batch }) (bench_taken (front_in a vb) bench (Some batch) b sure (subst (λ (f : FrontData). BatchStands f bench.desk.stored batch) front_begun here))
+      bench_still (record bench { batch = Some batch }) (bench_taken (front_in a vb) bench (Some batch) b sure (subst (λ (f : FrontData). BatchStands f bench.desk.stored batch) front_begun here.0))
 
   -- or all was stored
   pub taken_none : (bench : BenchData) → BenchStands (front_in a vb) bench → bench.desk.doubt ≡ None → BenchStands (front_in z vb) (record bench { batch = None })
@@ -82,23 +81,19 @@ module _ (a s z : WorldData Part) (vb sv zv : ℕ) (w : s ≡ a) (at : sv ≡ vb
       bench_still (record { desk = now; batch = batch; reads = map (option_map fetched_data) (slice_set reads index (Some fetched)) })
       (subst (λ (l : List (Option FetchedData)). BenchStands (front_in a vb) (record { desk = now; batch = batch; reads = l })) same after)
 
--- what is noted where a stripe is told what is stored
-abbrev mark_event : ℕ → ℕ → Marking → Option EventData
-mark_event stripe number markings.Idle = None
-mark_event stripe number (markings.Raised other) = Some (events.Marked stripe number)
-
-mark_noted : (f g : FrontData) (stripe number : ℕ) (marking : Marking) → IsMarked f g stripe number marking → g ≡ noted f (mark_event stripe number marking)
+-- where a stripe is told what is stored, that alone is noted
+mark_noted : (f g : FrontData) (stripe number : ℕ) (marking : Marking) → IsMarked f g stripe number marking → g ≡ noted f (marked_by stripe number marking)
 mark_noted f g stripe number markings.Idle is = is.1
 mark_noted f g stripe number (markings.Raised other) is = is.1
 
 -- it is no event of a call
-mark_quiet : (stripe number : ℕ) (marking : Marking) → IfSome (mark_event stripe number marking) (λ e. is_call e ≡ false)
+mark_quiet : (stripe number : ℕ) (marking : Marking) → IfSome (marked_by stripe number marking) (λ e. is_call e ≡ false)
 unfolding is_call
 mark_quiet stripe number markings.Idle = tt
 mark_quiet stripe number (markings.Raised other) = refl
 
 -- and none of the desk's
-mark_not_desks : (stripe number : ℕ) (marking : Marking) → IfSome (mark_event stripe number marking) (λ e. is_desks e ≡ false)
+mark_not_desks : (stripe number : ℕ) (marking : Marking) → IfSome (marked_by stripe number marking) (λ e. is_desks e ≡ false)
 unfolding is_desks
 mark_not_desks stripe number markings.Idle = tt
 mark_not_desks stripe number (markings.Raised other) = refl
@@ -106,16 +101,34 @@ mark_not_desks stripe number (markings.Raised other) = refl
 -- The stage begins at the world `r`, which is the world `a` with other room, and a stripe is told there what is stored.
 module _ (config : Config) (a r s z : WorldData Part) (vb sv zv n m stripe number : ℕ) (marking : Marking) (ready : Ready config a) (within : vb < config.vbuckets) (room : r ≡ record a { event_room = n; byte_room = m })
     (w : s ≡ r) (at : sv ≡ vb) (fixed : fixed_in z zv ≡ fixed_in s sv) (home : AreHome (front_in s sv).config (part_in z zv)) (is : IsMarked (front_in s sv) (front_in z zv) stripe number marking) where
-  mark_moved : Moved config vb (mark_event stripe number marking) a z
-  mark_moved = moved_with_room config a r s z vb sv zv (mark_event stripe number marking) (mark_event stripe number marking) n m ready within room w at fixed home (mark_noted (front_in s sv) (front_in z zv) stripe number marking is) refl
+  mark_moved : Moved config vb (marked_by stripe number marking) a z
+  mark_moved = moved_with_room config a r s z vb sv zv (marked_by stripe number marking) (marked_by stripe number marking) n m ready within room w at fixed home (mark_noted (front_in s sv) (front_in z zv) stripe number marking is) refl
+
+  -- what was told of the history at the end is told of the vBucket's
+  mark_told : IsMarked (front_in a vb) (front_in z vb) stripe number marking
+  mark_told =
+      let begun : front_in s sv ≡ front_in a vb =
+      ap (λ (k : ℕ). front_in s k) at ∙ ap (λ (k : WorldData Part). front_in k vb) w ∙ ap (λ (k : WorldData Part). front_in k vb) room in
+      let v : zv ≡ vb = ap (λ (k : FixedData Part). k.vb) fixed ∙ at in
+      subst (λ (f : FrontData). IsMarked f (front_in z vb) stripe number marking) begun
+      (subst (λ (k : ℕ). IsMarked (front_in s sv) (front_in z k) stripe number marking) v is)
+
+  -- the bench is left as it was
+  pub mark_marks : (bench : BenchData) → bench.desk.noted ≡ number → WasMarked config vb stripe marking a z bench bench
+  mark_marks bench same =
+      record {
+        left = refl;
+        moved = subst (λ (k : ℕ). Moved config vb (marked_by stripe k marking) a z) (sym same) mark_moved;
+        told = subst (λ (k : ℕ). IsMarked (front_in a vb) (front_in z vb) stripe k marking) (sym same) mark_told;
+      }
 
   pub mark_worked : Worked config vb a z
-  mark_worked = worked_by config a z vb (mark_event stripe number marking) mark_moved (mark_quiet stripe number marking)
+  mark_worked = worked_by config a z vb (marked_by stripe number marking) mark_moved (mark_quiet stripe number marking)
 
   -- the bench stands on
   pub mark_bench : (bench : BenchData) → Sound part_stands r → Sound part_stands z → BenchStands (front_in a vb) bench → BenchStands (front_in z vb) bench
   mark_bench bench before after b =
-      let event = mark_event stripe number marking in
+      let event = marked_by stripe number marking in
       let same : front_in r vb ≡ front_in a vb = ap (λ (k : WorldData Part). front_in k vb) room in
       let old : IsLegal (front_in a vb) = subst (λ (f : FrontData). IsLegal f) same (before.legal vb) in
       let new : IsLegal (noted (front_in a vb) event) = subst (λ (f : FrontData). IsLegal f) mark_moved.front (after.legal vb) in

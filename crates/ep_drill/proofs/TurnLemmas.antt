@@ -1,29 +1,32 @@
 -- A core goes on from step to step: what a caller's turn leaves of it, and what many steps do.
-use Rattle.std.proofs.Common.{◌≡◌, ◌<◌, ℕ, zero, suc, inl, inr, List, [], ◌∷◌, ◌++◌, map, length, slice_get, slice_set, slice_index_or, refl, sym, ap, subst, ◌∙◌}
-use Rattle.std.specs.Prelude.{Option, Some, None, Result, Ok, Err, IfOk, OnErr}
+use Rattle.std.proofs.Common.{◌≡◌, ◌<◌, ◌≤◌, ◌^◌, ℕ, zero, suc, inl, inr, List, [], ◌∷◌, ◌++◌, map, length, slice_get, slice_set, slice_index_or, refl, sym, ap, subst, ◌∙◌, arith}
+use Rattle.std.specs.Prelude.{Option, Some, None, IsSome, Result, Ok, Err, IfOk, OnErr}
 use Rattle.std.specs.Option.{option_map}
 use Rattle.std.specs.List.{AllByRecursion}
 use Rattle.std.proofs.lemmas.Bool.{cases_eq}
 use Rattle.std.proofs.lemmas.List.{append-nil, append_assoc, map-set}
-use Rattle.std.proofs.lemmas.Option.{slice_get-map, slice_get_read, slice_get_within}
-use Rattle.vb_world.proofs.Lists.{get_set, map-set_kept}
+use Rattle.std.proofs.lemmas.Option.{slice_get-map, slice_get_read}
+use Rattle.vb_world.proofs.Lists.{map-set_kept}
+use Rattle.ep_drill.proofs.Lists.{set_same}
 use Rattle.ep_model.specs.declared.config.Config.{Config}
 use Rattle.ep_model.specs.declared.data.CallData.{CallData}
 use Rattle.ep_model.specs.declared.data.EventData.{EventData}
 use Rattle.ep_model.specs.declared.data.FrontData.{FrontData}
 use Rattle.vb_world.specs.declared.data.WorldData.{WorldData}
-use Rattle.vb_world.specs.World.{front_in, Sound}
+use Rattle.vb_world.specs.World.{front_in, part_in, Sound}
 use Rattle.ep_drill.specs.declared.part.Part.{Part}
 use Rattle.ep_drill.specs.declared.bench.Bench.{Bench}
 use Rattle.ep_drill.specs.declared.owned.Caller.{Caller}
+use Rattle.ep_drill.specs.declared.owned.Loaded.{Loaded}
 use Rattle.ep_drill.specs.declared.data.CallerData.{CallerData}
 use Rattle.ep_drill.specs.declared.data.CoreData.{CoreData}
 use Rattle.ep_drill.specs.declared.flat.data.Step.{Step}
 use Rattle.ep_drill.specs.Parts.{part_stands}
 use Rattle.ep_drill.specs.Calls.{event_of, noted}
-use Rattle.ep_drill.specs.Callers.{CallerStands, caller_data, after_step, tried_of}
-use Rattle.ep_drill.specs.Core.{IsOn, Ready, Moved, Rested, Turned, Interleaves, Continues, GoesOn, calls_of, core_data, WasTried, IsFronted, answer_of}
-use Rattle.ep_drill.specs.Core.IsIdle.{NoCall}
+use Rattle.ep_drill.specs.Callers.{CallerStands, caller_data, loaded_data, next_of, after_step, tried_of}
+use Rattle.ep_drill.specs.Core.{IsOn, Ready, Moved, Rested, Turned, Interleaves, Continues, GoesOn, calls_of, core_data}
+use Rattle.ep_drill.specs.Stepped.{WasTried, IsFronted, IsIdle, Spares, answer_of}
+use Rattle.ep_drill.specs.Stepped.IsIdle.{NoCaller, NoCall, NoMoment}
 use Rattle.ep_drill.proofs.CoreLemmas.{core_tried, core_rested, calls_same}
 
 -- a history with an event more, or with none, goes on
@@ -59,12 +62,6 @@ goes_on_then a b c first second =
           };
     }
 
--- a list with an element replaced by itself
-pub set_same : {A : Type 0} (xs : List A) (i : ℕ) (x : A) → slice_get xs i ≡ Some x → slice_set xs i x ≡ xs
-set_same [] i x is = refl
-set_same (z ∷ xs) zero x is = let e : z ≡ x = cc in ap (λ y. y ∷ xs) (sym e)
-set_same (z ∷ xs) (suc i) x is = ap (λ l. z ∷ l) (set_same xs i x is)
-
 -- callers have the same calls where one is replaced by one with its calls
 pub calls_set : (xs : List CallerData) (i : ℕ) (x y : CallerData) → slice_get xs i ≡ Some x → y.calls ≡ x.calls → map calls_of (slice_set xs i y) ≡ map calls_of xs
 calls_set [] i x y is same = refl
@@ -89,10 +86,10 @@ module _ (core : CoreData) (z : WorldData Part) (number : ℕ) (caller after : C
 
   turned_none : z ≡ core.world → after ≡ caller → Goes
   turned_none world same =
-      turned_rested 0 (record { ready = subst (λ (k : WorldData Part). Ready core.config k) (sym world) i.ready; front = ap (λ (k : WorldData Part). front_in k 0) world; others = λ u differ. ap (λ (k : WorldData Part). front_in k u) world }) same
+      turned_rested 0 (record { ready = subst (λ (k : WorldData Part). Ready core.config k) (sym world) i.ready; front = ap (λ (k : WorldData Part). front_in k 0) world; others = λ u differ. ap (λ (k : WorldData Part). front_in k u) world; apart = λ u differ p. ap (λ (k : WorldData Part). part_in k u p) world }) same
 
   turned_err : Rested core.config core.world z → after ≡ caller → Goes
-  turned_err rested same = turned_rested 0 (record { ready = rested.0; front = rested.1 0; others = λ u differ. rested.1 u }) same
+  turned_err rested same = turned_rested 0 (record { ready = rested.ready; front = rested.fronts 0; others = λ u differ. rested.fronts u; apart = λ u differ p. rested.parts u p }) same
 
   turned_some : (now : ℕ) (value : List ℕ) (step : Step) → Turned core.config number now core.world z caller after value (Some step) → Goes
   turned_some now value step turned =
@@ -107,7 +104,7 @@ module _ (core : CoreData) (z : WorldData Part) (number : ℕ) (caller after : C
       )
 
   turned_data : {E : Type 0} (now : ℕ) (value : List ℕ) (result : Result (Option Step) E) → IfOk result (Turned core.config number now core.world z caller after value)
-      → OnErr result (Rested core.config core.world z × (after ≡ caller)) → Goes
+      → OnErr result (Rested core.config core.world z × (after ≡ caller) × IsSome (next_of caller)) → Goes
   turned_data now value (Ok None) ok err = turned_none ok.0 ok.1
   turned_data now value (Ok (Some step)) ok err = turned_some now value step ok
   turned_data now value (Err e) ok err = turned_err err.0 err.1
@@ -115,7 +112,7 @@ module _ (core : CoreData) (z : WorldData Part) (number : ℕ) (caller after : C
 -- A caller's turn: the core is as it should be, and goes on.
 pub turned_core : {E : Type 0} (config : Config) (w z : WorldData Part) (benches : List Bench) (callers : List Caller) (number now : ℕ) (caller after : Caller) (value : List ℕ) (result : Result (Option Step) E)
     → Interleaves (core_data config w benches callers) → slice_get callers number ≡ Some caller → IfOk result (Turned config number now w z (caller_data caller) (caller_data after) value)
-    → OnErr result (Rested config w z × (caller_data after ≡ caller_data caller)) → Sound part_stands z
+    → OnErr result (Rested config w z × (caller_data after ≡ caller_data caller) × IsSome (next_of (caller_data caller))) → Sound part_stands z
     → Interleaves (core_data config z benches (slice_set callers number after)) × GoesOn (core_data config w benches callers) (core_data config z benches (slice_set callers number after))
 turned_core config w z benches callers number now caller after value result i at ok err sound =
     let core : CoreData = core_data config w benches callers in
@@ -127,7 +124,7 @@ turned_core config w z benches callers number now caller after value result i at
 pub turned_at : {E : Type 0} (old : CoreData) (config : Config) (w z : WorldData Part) (benches : List Bench) (callers : List Caller) (place number told now : ℕ) (caller after : Caller) (value : List ℕ)
     (result : Result (Option Step) E) → core_data config w benches callers ≡ old → place ≡ told → number ≡ told
     → Interleaves (core_data config w benches callers) → slice_get callers place ≡ Some caller → IfOk result (Turned config number now w z (caller_data caller) (caller_data after) value)
-    → OnErr result (Rested config w z × (caller_data after ≡ caller_data caller)) → Sound part_stands z
+    → OnErr result (Rested config w z × (caller_data after ≡ caller_data caller) × IsSome (next_of (caller_data caller))) → Sound part_stands z
     → Interleaves (core_data config z benches (slice_set callers place after)) × GoesOn old (core_data config z benches (slice_set callers place after))
 turned_at old config w z benches callers place number told now caller after value result is here its i at ok err sound =
     let same : place ≡ number = here ∙ sym its in
@@ -150,6 +147,17 @@ lent_at xs n i x count within is = slice_get_read xs n i x count within is
 pub kept_still : (core old : CoreData) → core ≡ old → Interleaves core → Interleaves old × GoesOn old old
 kept_still core old is i = (subst (λ (k : CoreData). Interleaves k) is i, goes_on_refl old)
 
+-- the callers are told as before where one is put back as it was
+callers_kept : (callers : List Caller) (place : ℕ) (caller after : Caller) → slice_get callers place ≡ Some caller → caller_data after ≡ caller_data caller → map caller_data (slice_set callers place after) ≡ map caller_data callers
+callers_kept callers place caller after at same = map-set_kept caller_data callers place after (λ x found. let e : caller ≡ x = cc in same ∙ ap caller_data e)
+
+-- where a caller that a core has was told to be at a place, it is there
+caller_told : (old : CoreData) (config : Config) (w : WorldData Part) (benches : List Bench) (callers : List Caller) (place told : ℕ) (caller : Caller) → core_data config w benches callers ≡ old → place ≡ told
+    → slice_get callers place ≡ Some caller → slice_get old.callers told ≡ Some (caller_data caller)
+caller_told old config w benches callers place told caller is here at =
+    subst (λ (k : ℕ). slice_get old.callers k ≡ Some (caller_data caller)) here
+    (subst (λ (o : CoreData). slice_get o.callers place ≡ Some (caller_data caller)) is (get_told caller_data callers place caller at))
+
 -- what a core answers of a caller's turn
 pub fronted_at : {E : Type 0} (old : CoreData) (config : Config) (w z : WorldData Part) (benches : List Bench) (callers : List Caller) (place number told now : ℕ) (caller after : Caller) (value : List ℕ)
     (result : Result (Option Step) E) → core_data config w benches callers ≡ old → place ≡ told → number ≡ told → slice_get callers place ≡ Some caller
@@ -157,18 +165,17 @@ pub fronted_at : {E : Type 0} (old : CoreData) (config : Config) (w z : WorldDat
 fronted_at old config w z benches callers place number told now caller after value (Err e) is here its at ok = tt
 fronted_at old config w z benches callers place number told now caller after value (Ok None) is here its at ok =
     let first : CoreData = core_data config w benches callers in
-    let kept : map caller_data (slice_set callers place after) ≡ map caller_data callers =
-    map-set_kept caller_data callers place after (λ x found. let e : caller ≡ x = cc in ok.1 ∙ ap caller_data e) in
+    let kept : map caller_data (slice_set callers place after) ≡ map caller_data callers = callers_kept callers place caller after at ok.1 in
     let same : core_data config z benches (slice_set callers place after) ≡ first =
     ap (λ (l : List CallerData). record first { world = z; callers = l }) kept ∙ ap (λ (k : WorldData Part). record first { world = k }) ok.0 in (
       same ∙ is,
-      NoCall (caller_data caller) (subst (λ (k : ℕ). slice_get old.callers k ≡ Some (caller_data caller)) here
-          (subst (λ (o : CoreData). slice_get o.callers place ≡ Some (caller_data caller)) is (get_told caller_data callers place caller at))) ok.2,
+      NoCall (caller_data caller) (caller_told old config w benches callers place told caller is here at) ok.2,
     )
 fronted_at old config w z benches callers place number told now caller after value (Ok (Some step)) is here its at ok =
     let first : CoreData = core_data config w benches callers in
     let last : CoreData = core_data config z benches (slice_set callers place after) in
-    let set : slice_get (slice_set callers place after) place ≡ Some after = get_set callers place after (slice_get_within callers place caller at) in
+    let list : last.callers ≡ slice_set first.callers told (after_step step (caller_data caller)) =
+    map-set caller_data callers place after ∙ ap (λ (k : ℕ). slice_set first.callers k (caller_data after)) here ∙ ap (λ (y : CallerData). slice_set first.callers told y) ok.3 in
     let tried : WasTried first last told now (tried_of step) = record {
       caller = caller_data caller;
       call = ok.0;
@@ -178,7 +185,40 @@ fronted_at old config w z benches callers place number told now caller after val
       next = ok.1;
       told = refl;
       moved = subst (λ (k : ℕ). Moved config ok.0.0 (event_of k ok.0.1 now caller.prior value step) w z) its ok.2;
-      behind = subst (λ (k : ℕ). slice_get last.callers k ≡ Some (after_step step (caller_data caller))) here
-          (subst (λ (y : CallerData). slice_get last.callers place ≡ Some y) ok.3 (get_told caller_data (slice_set callers place after) place after set));
+      comes = ok.4;
+      left = ap (λ (l : List CallerData). record first { world = z; callers = l }) list;
     } in
     subst (λ (o : CoreData). WasTried o last told now (tried_of step)) is tried
+
+-- over plain numbers, so that the power isn't counted out
+not_before : (m n : ℕ) → m ≤ n → n < m → ⊥
+not_before m n late early = absurd (omega arith)
+
+-- a caller that has a call to do at a moment of a step isn't idle
+not_idle : (old : CoreData) (number now : ℕ) (caller : CallerData) → slice_get old.callers number ≡ Some caller → IsSome (next_of caller) → now < 2 ^ 62 → IsIdle old number now → ⊥
+not_idle old number now caller at some early (NoCaller none) = absurd (cc)
+not_idle old number now caller at some early (NoCall other found none) =
+    let same : caller ≡ other = cc in
+    let gone = subst (λ (o : Option (ℕ × CallData)). IsSome o) (ap next_of same ∙ none) some in
+    absurd (cc)
+not_idle old number now caller at some early (NoMoment late) = not_before (2 ^ 62) now late early
+
+-- Where memory was wanting for a caller's turn nothing has changed, and there was a call to do.
+pub front_spared : {E : Type 0} (old : CoreData) (config : Config) (w z : WorldData Part) (benches : List Bench) (callers : List Caller) (place told now : ℕ) (caller after : Caller) (result : Result (Option Step) E)
+    → core_data config w benches callers ≡ old → place ≡ told → slice_get callers place ≡ Some caller → now < 2 ^ 62
+    → OnErr result (Rested config w z × (caller_data after ≡ caller_data caller) × IsSome (next_of (caller_data caller)))
+    → OnErr (answer_of result) (Spares old (core_data config z benches (slice_set callers place after)) × (IsIdle old told now → ⊥))
+front_spared old config w z benches callers place told now caller after (Ok None) is here at early err = tt
+front_spared old config w z benches callers place told now caller after (Ok (Some step)) is here at early err = tt
+front_spared old config w z benches callers place told now caller after (Err e) is here at early err =
+    let first : CoreData = core_data config w benches callers in
+    let last : CoreData = core_data config z benches (slice_set callers place after) in
+    let spared : Spares first last = record {
+      left = ap (λ (l : List CallerData). record first { world = z; callers = l }) (callers_kept callers place caller after at err.1);
+      rested = err.0;
+    } in
+    (subst (λ (o : CoreData). Spares o last) is spared, not_idle old told now (caller_data caller) (caller_told old config w benches callers place told caller is here at) err.2 early)
+
+-- a caller whose list has a call at the place of its next one has a next call
+pub is_next : (caller : Caller) (loaded : Loaded) → slice_get caller.calls.items caller.answered ≡ Some loaded → IsSome (next_of (caller_data caller))
+is_next caller loaded at = subst (λ (o : Option (ℕ × CallData)). IsSome o) (sym (get_told loaded_data caller.calls.items caller.answered loaded at)) refl

@@ -20,7 +20,7 @@ use Rattle.vb_world.specs.History.{events_of}
 use Rattle.vb_world.specs.World.{slot_of, place_at, place_in, home_of, part_in, is_out_with, has_out, start_of, front_in, fixed_in}
 use Rattle.ep_drill.specs.declared.part.Part.{Part}
 use Rattle.ep_drill.specs.Calls.{noted, AreHome}
-use Rattle.ep_drill.specs.Core.{Ready, Moved}
+use Rattle.ep_drill.specs.Core.{Ready, Moved, Rested}
 
 module _ {A : Type 0} where
   get_behind : (xs : List A) (u : ℕ) → slice_get xs (suc u) ≡ slice_get (drop 1 xs) u
@@ -103,6 +103,18 @@ module _ {P : Type 0} where
       ap (λ (k : Config). part_made k (slice_get b.buckets u) p) (ap (λ (d : FixedData P). d.config) fixed)
       ∙ ap (λ (o : Option (BucketData P)). part_made a.config o p) (buckets_apart a b vb u fixed differ)
 
+  -- a part that isn't there is told as none
+  part_missing : (world : WorldData P) (vb : ℕ) (p : PartName) → there world.config p ≡ false → part_in world vb p ≡ None
+  part_missing world vb p is = ap (λ (t : Bool). home_of (if t then place_at (slice_get world.buckets vb) (slot_of world.config p) else None)) is
+
+  -- so where the parts that are there are told as before, all are
+  pub parts_kept : (a b : WorldData P) (vb : ℕ) → b.config ≡ a.config → ((p : PartName) → there a.config p ≡ true → part_in b vb p ≡ part_in a vb p) → (p : PartName) → part_in b vb p ≡ part_in a vb p
+  parts_kept a b vb layout told p =
+      elim (there a.config p) as (λ t. there a.config p ≡ t → part_in b vb p ≡ part_in a vb p) [
+        | true ↦ λ is. told p is
+        | false ↦ λ is. part_missing b vb p (ap (λ (k : Config). there k p) layout ∙ is) ∙ sym (part_missing a vb p is)
+      ] refl
+
   home_not_out : (caller : ℕ) (o : Option (Place P)) → IsSome (home_of o) → is_out_with caller o ≡ false
   home_not_out caller None home = refl
   home_not_out caller (Some (Home x)) home = refl
@@ -138,10 +150,36 @@ ready_again config a b vb ready within fixed home =
 pub moved_by : (config : Config) (a b : WorldData Part) (vb : ℕ) (event : Option EventData)
     → Ready config a → vb < config.vbuckets → fixed_in b vb ≡ fixed_in a vb → AreHome config (part_in b vb) → front_in b vb ≡ noted (front_in a vb) event → Moved config vb event a b
 moved_by config a b vb event ready within fixed home front =
-    record { ready = ready_again config a b vb ready within fixed home; front = front; others = λ u differ. front_same a b vb u fixed differ }
+    record { ready = ready_again config a b vb ready within fixed home; front = front; others = λ u differ. front_same a b vb u fixed differ; apart = λ u differ p. part_same a b vb u fixed differ p }
 
 -- More room alone moves nothing.
 pub moved_room : (config : Config) (a b : WorldData Part) (vb n m : ℕ) → Ready config a → b ≡ record a { event_room = n; byte_room = m } → Moved config vb None a b
 moved_room config a b vb n m ready is =
     subst (λ (w : WorldData Part). Moved config vb None a w) (sym is)
-    (record { ready = record { fault = ready.fault; eviction = ready.eviction; layout = ready.layout; count = ready.count; home = ready.home }; front = refl; others = λ u differ. refl })
+    (record { ready = record { fault = ready.fault; eviction = ready.eviction; layout = ready.layout; count = ready.count; home = ready.home }; front = refl; others = λ u differ. refl; apart = λ u differ p. refl })
+
+-- Where one vBucket's history and parts are as they were, and nothing else was changed, all are.
+pub rested_by : (config : Config) (a b : WorldData Part) (vb : ℕ) → Ready config a → vb < config.vbuckets → fixed_in b vb ≡ fixed_in a vb → AreHome config (part_in b vb) → front_in b vb ≡ front_in a vb
+    → ((p : PartName) → there a.config p ≡ true → part_in b vb p ≡ part_in a vb p) → Rested config a b
+rested_by config a b vb ready within fixed home front told =
+    let kept = parts_kept a b vb (ap (λ (d : FixedData Part). d.config) fixed) told in
+    let fronts : (u : ℕ) → (u ≡ vb) ⊎ (u ≡ vb → ⊥) → front_in b u ≡ front_in a u = λ u c. elim c as (λ _. front_in b u ≡ front_in a u) [
+      | inl is ↦ subst (λ (n : ℕ). front_in b n ≡ front_in a n) (sym is) front
+      | inr differ ↦ front_same a b vb u fixed differ
+    ] in
+    let parts : (u : ℕ) (p : PartName) → (u ≡ vb) ⊎ (u ≡ vb → ⊥) → part_in b u p ≡ part_in a u p = λ u p c. elim c as (λ _. part_in b u p ≡ part_in a u p) [
+      | inl is ↦ subst (λ (n : ℕ). part_in b n p ≡ part_in a n p) (sym is) (kept p)
+      | inr differ ↦ part_same a b vb u fixed differ p
+    ] in
+    record { ready = ready_again config a b vb ready within fixed home; fronts = λ u. fronts u (cases_eq u vb); parts = λ u p. parts u p (cases_eq u vb) }
+
+-- More room alone changes nothing.
+pub room_rests : (config : Config) (a b : WorldData Part) (n m : ℕ) → Ready config a → b ≡ record a { event_room = n; byte_room = m } → Rested config a b
+room_rests config a b n m ready is =
+    subst (λ (w : WorldData Part). Rested config a w) (sym is)
+    (record { ready = record { fault = ready.fault; eviction = ready.eviction; layout = ready.layout; count = ready.count; home = ready.home }; fronts = λ u. refl; parts = λ u p. refl })
+
+-- nothing happened twice
+pub rested_then : (config : Config) (a b c : WorldData Part) → Rested config a b → Rested config b c → Rested config a c
+rested_then config a b c first second =
+    record { ready = second.ready; fronts = λ u. second.fronts u ∙ first.fronts u; parts = λ u p. second.parts u p ∙ first.parts u p }

@@ -29,10 +29,10 @@ IsPaged (Some (parts.Stripe x)) new paged =
 IsPaged (Some (parts.Queue q)) new paged = ⊥
 IsPaged (Some (parts.Desk d)) new paged = ⊥
 
--- a batch that stands, or all is stored
+-- a batch that stands and goes up to the last mutation, or all is stored
 abbrev pub IsTaken : FrontData → ℕ → Option BatchData → Type 0
 IsTaken f stored None = (world_of f).high ≡ (world_of f).persisted
-IsTaken f stored (Some batch) = BatchStands f stored batch
+IsTaken f stored (Some batch) = BatchStands f stored batch × (batch.to ≡ (world_of f).high)
 
 -- what is known of a desk whose store tells what it holds
 abbrev pub DeskKnown : {K : Type 0} → FrontData → Option Content → DeskData K → Type 0
@@ -46,3 +46,9 @@ IsFlushed old new content before desk batch flushes.Failed =
     (new ≡ old) × DeskKnown new content desk × (desk.doubt ≡ Some batch.to) × (desk.stored ≡ before.stored) × (desk.noted ≡ before.noted) × (desk.read_faults ≡ before.read_faults)
 IsFlushed old new content before desk batch flushes.NoMemory =
     (new ≡ old) × DeskKnown new content desk × (desk.doubt ≡ None) × (desk.stored ≡ before.stored) × (desk.noted ≡ before.noted) × (desk.read_faults ≡ before.read_faults)
+
+-- P, where the store failed
+abbrev pub OnFailed : Flushed → Type 0 → Type 0
+OnFailed (flushes.Stored number) P = Unit {0}
+OnFailed flushes.Failed P = P
+OnFailed flushes.NoMemory P = Unit {0}

@@ -1,5 +1,5 @@
 -- What is true of a core between two steps, and how a step moves it.
-use Rattle.std.specs.Prelude.{◌≡◌, ◌≢◌, ◌⊎◌, ℕ, ◌-◌, ◌^◌, min, ◌<◌, ◌≤◌, true, false, List, map, ◌++◌, length, slice_get, Option, Some, None, IfSome, Result, Ok, Err}
+use Rattle.std.specs.Prelude.{◌≡◌, ◌≢◌, ℕ, ◌-◌, ◌^◌, min, ◌<◌, ◌≤◌, true, false, List, map, ◌++◌, length, slice_get, Option, Some, None, IfSome}
 use Rattle.std.specs.Option.{option_map}
 use Rattle.std.specs.List.{AllByRecursion}
 use Rattle.ep_model.specs.declared.config.Config.{Config}
@@ -14,26 +14,21 @@ use Rattle.kv_keeper.specs.declared.data.BatchData.{BatchData}
 use Rattle.vb_world.specs.declared.data.WorldData.{WorldData}
 use Rattle.vb_world.specs.World.{front_in, part_in, Sound}
 use Rattle.ep_drill.specs.declared.part.Part.{Part}
-use Rattle.ep_drill.specs.declared.choice.Answer.{Answer}
-use Rattle.ep_drill.specs.declared.choice.Answer.TheVariants as answers
-use Rattle.ep_drill.specs.declared.choice.StepChoice.{StepChoice}
-use Rattle.ep_drill.specs.declared.choice.StepChoice.TheVariants as choices
-use Rattle.ep_drill.specs.declared.choice.Tried.{Tried}
 use Rattle.ep_drill.specs.declared.bench.Bench.{Bench}
 use Rattle.ep_drill.specs.declared.data.BenchData.{BenchData}
 use Rattle.ep_drill.specs.declared.data.CallerData.{CallerData}
 use Rattle.ep_drill.specs.declared.data.CoreData.{CoreData}
 use Rattle.ep_drill.specs.declared.flat.data.FetchedData.{FetchedData}
 use Rattle.ep_drill.specs.declared.flat.data.FoundData.TheVariants as founds
-use Rattle.ep_model.specs.declared.event.PartName.TheVariants.{Stripe}
+use Rattle.ep_model.specs.declared.event.PartName.{PartName}
 use Rattle.ep_drill.specs.Parts.{part_stands}
-use Rattle.ep_drill.specs.Answers.{IsPaged}
 use Rattle.ep_drill.specs.declared.flat.data.Step.{Step}
 use Rattle.ep_drill.specs.declared.owned.Caller.{Caller}
 use Rattle.ep_drill.specs.Calls.{event_of, noted, AreHome}
-use Rattle.ep_drill.specs.Callers.{CallerStands, caller_data, next_of, after_step, tried_of}
+use Rattle.ep_drill.specs.Callers.{CallerStands, caller_data, next_of, after_step}
 use Rattle.ep_drill.specs.Fetches.{fetched_data}
 use Rattle.ep_drill.specs.Stands.{DeskStands, BatchStands, FetchedStands}
+use Rattle.ep_drill.specs.Tries.{ComesTo}
 
 abbrev pub bench_data : Bench → BenchData
 bench_data bench = record { desk = bench.desk; batch = bench.batch; reads = map (option_map fetched_data) bench.reads.items }
@@ -59,11 +54,13 @@ pub record Ready (config : Config) (world : WorldData Part) : Type 0 where
   pub count : length world.buckets ≡ config.vbuckets
   pub home : (vb : ℕ) → vb < config.vbuckets → AreHome config (part_in world vb)
 
--- One vBucket's history got an event more, or none, and the others' none; all parts are at home again.
+-- One vBucket's history got an event more, or none, and the others' none; all parts are at home again, those of the others as
+-- they were.
 pub record Moved (config : Config) (vb : ℕ) (event : Option EventData) (old new : WorldData Part) : Type 0 where
   pub ready : Ready config new
   pub front : front_in new vb ≡ noted (front_in old vb) event
   pub others : (u : ℕ) → u ≢ vb → front_in new u ≡ front_in old u
+  pub apart : (u : ℕ) → u ≢ vb → (p : PartName) → part_in new u p ≡ part_in old u p
 
 -- the same, by an event that isn't a call's
 pub record Worked (config : Config) (vb : ℕ) (old new : WorldData Part) : Type 0 where
@@ -72,14 +69,17 @@ pub record Worked (config : Config) (vb : ℕ) (old new : WorldData Part) : Type
   pub quiet : IfSome event (λ e. is_call e ≡ false)
 
 -- nothing happened, but that there may be room for more
-abbrev pub Rested : Config → WorldData Part → WorldData Part → Type 0
-Rested config old new = Ready config new × ((u : ℕ) → front_in new u ≡ front_in old u)
+pub record Rested (config : Config) (old new : WorldData Part) : Type 0 where
+  pub ready : Ready config new
+  pub fronts : (u : ℕ) → front_in new u ≡ front_in old u
+  pub parts : (u : ℕ) (p : PartName) → part_in new u p ≡ part_in old u p
 
 -- A caller's next call came to this, and its event is noted where it has one; or there is no next call, and nothing happened.
 abbrev pub Turned : Config → ℕ → ℕ → WorldData Part → WorldData Part → CallerData → CallerData → List ℕ → Option Step → Type 0
 Turned config number now old new caller after value None = (new ≡ old) × (after ≡ caller) × (next_of caller ≡ None)
 Turned config number now old new caller after value (Some step) =
     (call : ℕ × CallData) × (next_of caller ≡ Some call) × Moved config call.0 (event_of number call.1 now caller.prior value step) old new × (after ≡ after_step step caller)
+    × ComesTo config (part_in old call.0) (part_in new call.0) call.1 now caller.prior step
 
 -- the call is on a vBucket that there is
 abbrev pub IsOn : Config → ℕ × CallData → Type 0
@@ -118,61 +118,3 @@ pub record GoesOn (old new : CoreData) : Type 0 where
   pub layout : new.config ≡ old.config
   pub calls : map calls_of new.callers ≡ map calls_of old.callers
   pub grown : (vb : ℕ) → Continues (front_in old.world vb) (front_in new.world vb)
-
--- A caller's next call was tried, with this answer, and its event is noted where it has one.
-pub record WasTried (old new : CoreData) (number now : ℕ) (tried : Tried) : Type 0 where
-  pub caller : CallerData
-  pub call : ℕ × CallData
-  pub step : Step
-  pub value : List ℕ
-  pub before : slice_get old.callers number ≡ Some caller
-  pub next : next_of caller ≡ Some call
-  pub told : tried ≡ tried_of step
-  pub moved : Moved old.config call.0 (event_of number call.1 now caller.prior value step) old.world new.world
-  pub behind : slice_get new.callers number ≡ Some (after_step step caller)
-
--- there is no such caller, its calls are all answered, or the moment is none of a step
-pub data IsIdle (old : CoreData) (number now : ℕ) : Type 0 where
-  NoCaller : slice_get old.callers number ≡ None → IsIdle old number now
-  NoCall : (caller : CallerData) → slice_get old.callers number ≡ Some caller → next_of caller ≡ None → IsIdle old number now
-  NoMoment : 2 ^ 62 ≤ now → IsIdle old number now
-
--- what a caller's turn answers
-abbrev pub IsFronted : CoreData → CoreData → ℕ → ℕ → Answer → Type 0
-IsFronted old new number now answers.Nothing = (new ≡ old) × IsIdle old number now
-IsFronted old new number now (answers.Tried tried) = WasTried old new number now tried
-IsFronted old new number now (answers.Took count) = ⊥
-IsFronted old new number now (answers.Flushed flushed) = ⊥
-IsFronted old new number now (answers.Marked marking) = ⊥
-IsFronted old new number now (answers.Read waited) = ⊥
-IsFronted old new number now (answers.Merged merging) = ⊥
-IsFronted old new number now (answers.Paged paged) = ⊥
-
--- the answer of what a caller's turn came to
-abbrev pub answer_of : {E : Type 0} → Result (Option Step) E → Result Answer E
-answer_of (Ok (Some step)) = Ok (answers.Tried (tried_of step))
-answer_of (Ok None) = Ok answers.Nothing
-answer_of (Err e) = Err e
-
--- what a page step answers: nothing exactly where there is no such stripe
-abbrev pub IsPagedAt : CoreData → CoreData → ℕ → ℕ → Answer → Type 0
-IsPagedAt old new vb stripe answers.Nothing = (new ≡ old) × ((old.config.vbuckets ≤ vb) ⊎ (old.config.stripes ≤ stripe))
-IsPagedAt old new vb stripe (answers.Tried tried) = ⊥
-IsPagedAt old new vb stripe (answers.Took count) = ⊥
-IsPagedAt old new vb stripe (answers.Flushed flushed) = ⊥
-IsPagedAt old new vb stripe (answers.Marked marking) = ⊥
-IsPagedAt old new vb stripe (answers.Read waited) = ⊥
-IsPagedAt old new vb stripe (answers.Merged merging) = ⊥
-IsPagedAt old new vb stripe (answers.Paged paged) = IsPaged (part_in old.world vb (Stripe stripe)) (part_in new.world vb (Stripe stripe)) paged
-
--- What a step answers and does. Of the steps that work on a store this says nothing so far.
-abbrev pub Stepped : CoreData → CoreData → StepChoice → Answer → Type 0
-Stepped old new (choices.Warm vb) answer = (answer ≡ answers.Nothing) × (new ≡ old)
-Stepped old new (choices.Front caller now) answer = IsFronted old new caller now answer
-Stepped old new (choices.TakeBatch vb) answer = Unit {0}
-Stepped old new (choices.Commit vb) answer = Unit {0}
-Stepped old new (choices.Mark vb stripe) answer = Unit {0}
-Stepped old new (choices.Read vb stripe) answer = Unit {0}
-Stepped old new (choices.Merge vb stripe) answer = Unit {0}
-Stepped old new (choices.Page vb stripe) answer = IsPagedAt old new vb stripe answer
-Stepped old new (choices.Expire vb stripe now) answer = (answer ≡ answers.Nothing) × (new ≡ old)

@@ -1,5 +1,5 @@
 -- What reads of the store find, and how they end.
-use Rattle.std.specs.Prelude.{◌≡◌, ℕ, ◌≤◌, ◌<◌, ◌⊎◌, Bool, true, false, List, Option, Some, None, Vec}
+use Rattle.std.specs.Prelude.{◌≡◌, ℕ, ◌≤◌, ◌<◌, ◌⊎◌, Bool, true, false, List, Option, Some, None, IsSome, Vec}
 use Rattle.std.specs.FinMap as map
 use Rattle.std.specs.declared.alloc.Global.{Global}
 use Rattle.ep_model.specs.declared.call.Meta.{Meta}
@@ -25,7 +25,7 @@ use Rattle.ep_drill.specs.declared.flat.data.Outcome.{Outcome}
 use Rattle.ep_drill.specs.declared.flat.data.Outcome.TheVariants as outcomes
 use Rattle.ep_drill.specs.declared.flat.data.PlaceData.{PlaceData}
 use Rattle.ep_drill.specs.declared.flat.data.StripeData.{StripeData}
-use Rattle.ep_drill.specs.Nodes.{doc_of, node_at, outcome_at, settled}
+use Rattle.ep_drill.specs.Nodes.{doc_of, node_at, first_waiting, outcome_at, settled}
 use Rattle.ep_drill.specs.Steps.{restored}
 use Rattle.ep_drill.specs.Stands.{FetchedStands}
 
@@ -76,6 +76,33 @@ abbrev pub IsRead : FrontData → ℕ → ℕ → ℕ → Option Fetched → Typ
 IsRead f stripe before now None = now ≡ before
 IsRead f stripe before now (Some fetched) = FetchedStands f (fetched_data fetched) × (fetched.ticket.stripe ≡ stripe) × IsCounted before now (found_data fetched.found)
 
+-- the read is that of the oldest place that waits in a stripe; none is made where none waits
+abbrev pub IsReadOf : Option PlaceData → Option Fetched → Type 0
+IsReadOf None None = Unit {0}
+IsReadOf None (Some fetched) = ⊥
+IsReadOf (Some place) None = ⊥
+IsReadOf (Some place) (Some fetched) = (fetched.ticket.number ≡ place.number) × (fetched.key.items ≡ place.key)
+
+abbrev pub ReadsOldest : Option Part → Option Fetched → Type 0
+ReadsOldest None read = ⊥
+ReadsOldest (Some (parts.Stripe x)) read = IsReadOf (first_waiting x.places) read
+ReadsOldest (Some (parts.Queue q)) read = ⊥
+ReadsOldest (Some (parts.Desk d)) read = ⊥
+
+-- some place waits in a stripe
+abbrev pub HasWaiting : Option Part → Type 0
+HasWaiting None = ⊥
+HasWaiting (Some (parts.Stripe x)) = IsSome (first_waiting x.places)
+HasWaiting (Some (parts.Queue q)) = ⊥
+HasWaiting (Some (parts.Desk d)) = ⊥
+
+-- P, where the store failed
+abbrev pub OnFault : FoundData → Type 0 → Type 0
+OnFault (founds.Row doc) P = Unit {0}
+OnFault founds.Absent P = Unit {0}
+OnFault (founds.Failed fault) P = P
+OnFault founds.NoMemory P = Unit {0}
+
 -- a read leaves the store and what is known of it, but for the count of read faults
 pub record DeskRead {K : Type 0} (content : Content) (now : Option Content) (old new : DeskData K) : Type 0 where
   pub told : now ≡ Some content
@@ -111,10 +138,17 @@ HasValue (Some (parts.Stripe x)) key = (node : NodeData) × (node_at x.nodes key
 HasValue (Some (parts.Queue q)) key = ⊥
 HasValue (Some (parts.Desk d)) key = ⊥
 
+-- a document was found
+abbrev pub IsRow : FoundData → Type 0
+IsRow (founds.Row doc) = Unit {0}
+IsRow founds.Absent = ⊥
+IsRow (founds.Failed fault) = ⊥
+IsRow founds.NoMemory = ⊥
+
 -- A read is stale exactly where nobody waits at its ticket. Else it ends as it says, whoever waits there finds that, and a failure
 -- is told. What was read is in memory then.
 abbrev pub IsMerged : FrontData → FrontData → Option Part → Option Part → FetchedData → Merging → Type 0
-IsMerged old new part left fetched mergings.Merged = (new ≡ old) × HasPlace part fetched.ticket × HasOutcome left fetched.ticket outcomes.Merged × HasValue left fetched.key
+IsMerged old new part left fetched mergings.Merged = (new ≡ old) × HasPlace part fetched.ticket × HasOutcome left fetched.ticket outcomes.Merged × HasValue left fetched.key × IsRow fetched.found
 IsMerged old new part left fetched mergings.Absent = (new ≡ old) × HasPlace part fetched.ticket × (fetched.found ≡ founds.Absent) × HasOutcome left fetched.ticket outcomes.Absent
 IsMerged old new part left fetched mergings.Stale = (new ≡ old) × (left ≡ part) × HasNoPlace part fetched.ticket
 IsMerged old new part left fetched mergings.Failed = (fault : ℕ) × (fetched.found ≡ founds.Failed fault) × (new ≡ with_event old (events.ReadFailed fetched.ticket fault)) × HasPlace part fetched.ticket × HasOutcome left fetched.ticket (outcomes.Failed fault)

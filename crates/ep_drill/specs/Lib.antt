@@ -11,5 +11,8 @@ pub mod Calls
 pub mod Answers
 pub mod Fetches
 pub mod Callers
+pub mod Tries
 pub mod Core
+pub mod Works
+pub mod Stepped
 pub mod Opens

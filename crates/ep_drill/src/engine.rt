@@ -1,14 +1,18 @@
 // A core, its steps and lists of them.
-ghost use Rattle.std.specs.Prelude.{◌≡◌, ◌+◌, length, map, Some, None, IfOk, OnOk, OnErr};
+ghost use Rattle.std.specs.Prelude.{◌≡◌, ◌+◌, ◌<◌, length, map, slice_get, Some, None, IsSome, IfOk, OnOk, OnErr};
+ghost use Rattle.ep_model.specs.declared.event.PartName.TheVariants.{Stripe};
 ghost use Rattle.ep_model.specs.declared.limits.TheConstants.{MAX_VALUE};
+ghost use Rattle.vb_world.specs.World.{part_in};
 ghost use Rattle.ep_drill.specs.Callers.{caller_data};
-ghost use Rattle.ep_drill.specs.Core.{core_data, Interleaves, IsFronted, IsPagedAt, GoesOn, Stepped};
+ghost use Rattle.ep_drill.specs.Fetches.{HasWaiting};
+ghost use Rattle.ep_drill.specs.Core.{core_data, Interleaves, GoesOn};
+ghost use Rattle.ep_drill.specs.Works.{Takes, Commits, Marks, Fetches, Merges};
+ghost use Rattle.ep_drill.specs.Stepped.{BenchIs, IsBenched, IsFronted, IsIdle, IsNoBucket, IsNowhere, IsPagedAt, Ran, RanSome, Spares, Stepped, TakesMemory};
 
 use crate::bench::Bench;
 use crate::choice::{Answer, StepChoice};
 use crate::owned::Caller;
 use crate::part::Part;
-use crate::store::Flushed;
 use crate::stored::{commit_at, merge_at, read_at, take_at};
 use crate::turn::{answer_of, try_next};
 use crate::worked::{mark_at, page_at};
@@ -54,6 +58,7 @@ impl Core {
         ensures interleaves { Interleaves self.new }
         ensures goes_on { GoesOn self.old self.new }
         ensures fronted { IfOk result (IsFronted self.old self.new number now) }
+        ensures err { OnErr result (Spares self.old self.new × (IsIdle self.old number now → ⊥)) }
     {
         let Some(caller) = self.callers.get_mut(usize::from(number)) else {
             return Ok(Answer::Nothing);
@@ -74,41 +79,36 @@ impl Core {
     }
 
     // Copies what isn't stored yet.
-    fn take_batch(&mut self, alloc: Global, vb: u16) -> Result<Answer, NoMemory>
+    fn take_batch(&mut self, alloc: Global, vb: u16) -> Answer
         ensures interleaves { Interleaves self.new }
         ensures goes_on { GoesOn self.old self.new }
+        ensures taken { IsBenched self.old self.new vb (IsNoBucket self.old vb) (Takes self.old.config vb) result }
     {
         let Some(bench) = self.benches.get_mut(usize::from(vb)) else {
-            return Ok(Answer::Nothing);
+            return Answer::Nothing;
         };
-        if !bench.desk.is_sure() {
-            return Ok(Answer::Flushed(Flushed::Failed));
-        }
-        match take_at(alloc, &self.config, &mut self.world, vb, bench) {
-            Ok(count) => Ok(Answer::Took(count)),
-            Err(NoMemory) => Ok(Answer::Flushed(Flushed::NoMemory)),
-        }
+        take_at(alloc, &self.config, &mut self.world, vb, bench)
     }
 
     // Commits what was copied.
     fn commit(&mut self, alloc: Global, vb: u16) -> Result<Answer, NoMemory>
         ensures interleaves { Interleaves self.new }
         ensures goes_on { GoesOn self.old self.new }
+        ensures committed { IfOk result (IsBenched self.old self.new vb (IsNoBucket self.old vb) (Commits self.old.config vb)) }
+        ensures err { OnErr result (Spares self.old self.new × BenchIs self.old vb (λ bench. IsSome bench.batch)) }
     {
         let Some(bench) = self.benches.get_mut(usize::from(vb)) else {
             return Ok(Answer::Nothing);
         };
-        match commit_at(alloc, &self.config, &mut self.world, vb, bench) {
-            Ok(Some(flushed)) => Ok(Answer::Flushed(flushed)),
-            Ok(None) => Ok(Answer::Nothing),
-            Err(NoMemory) => Err(NoMemory),
-        }
+        commit_at(alloc, &self.config, &mut self.world, vb, bench)
     }
 
     // Tells a stripe what is stored.
     fn mark(&mut self, vb: u16, stripe: u16) -> Result<Answer, NoMemory>
         ensures interleaves { Interleaves self.new }
         ensures goes_on { GoesOn self.old self.new }
+        ensures marked { IfOk result (IsBenched self.old self.new vb (IsNowhere self.old vb stripe) (Marks self.old.config vb stripe)) }
+        ensures err { OnErr result (Spares self.old self.new × (vb < self.old.config.vbuckets) × (stripe < self.old.config.stripes)) }
     {
         let Some(bench) = self.benches.get(usize::from(vb)) else {
             return Ok(Answer::Nothing);
@@ -116,10 +116,7 @@ impl Core {
         if stripe >= self.config.stripes {
             return Ok(Answer::Nothing);
         }
-        match mark_at(&self.config, &mut self.world, vb, bench, stripe) {
-            Ok(marking) => Ok(Answer::Marked(marking)),
-            Err(NoMemory) => Err(NoMemory),
-        }
+        mark_at(&self.config, &mut self.world, vb, bench, stripe)
     }
 
     // Ejects values.
@@ -138,31 +135,8 @@ impl Core {
     fn read(&mut self, alloc: Global, vb: u16, stripe: u16) -> Result<Answer, NoMemory>
         ensures interleaves { Interleaves self.new }
         ensures goes_on { GoesOn self.old self.new }
-    {
-        let Some(bench) = self.benches.get_mut(usize::from(vb)) else {
-            return Ok(Answer::Nothing);
-        };
-        if stripe >= self.config.stripes || !bench.desk.is_sure() {
-            return Ok(Answer::Nothing);
-        }
-        match read_at(
-            alloc,
-            &self.config,
-            &mut self.world,
-            vb,
-            bench,
-            stripe,
-            &mut self.value,
-        ) {
-            Ok(waited) => Ok(Answer::Read(waited)),
-            Err(NoMemory) => Err(NoMemory),
-        }
-    }
-
-    // Hands what was read to whoever waits for it.
-    fn merge(&mut self, vb: u16, stripe: u16) -> Result<Answer, NoMemory>
-        ensures interleaves { Interleaves self.new }
-        ensures goes_on { GoesOn self.old self.new }
+        ensures read { IfOk result (IsBenched self.old self.new vb (IsNowhere self.old vb stripe) (Fetches self.old.config vb stripe)) }
+        ensures err { OnErr result (Spares self.old self.new × BenchIs self.old vb (λ bench. bench.desk.doubt ≡ None) × HasWaiting (part_in self.old.world vb (Stripe stripe))) }
     {
         let Some(bench) = self.benches.get_mut(usize::from(vb)) else {
             return Ok(Answer::Nothing);
@@ -170,26 +144,47 @@ impl Core {
         if stripe >= self.config.stripes {
             return Ok(Answer::Nothing);
         }
-        match merge_at(&self.config, &mut self.world, vb, bench, stripe) {
-            Ok(Some(merging)) => Ok(Answer::Merged(merging)),
-            Ok(None) => Ok(Answer::Nothing),
-            Err(NoMemory) => Err(NoMemory),
+        read_at(
+            alloc,
+            &self.config,
+            &mut self.world,
+            vb,
+            bench,
+            stripe,
+            &mut self.value,
+        )
+    }
+
+    // Hands what was read to whoever waits for it.
+    fn merge(&mut self, vb: u16, stripe: u16) -> Result<Answer, NoMemory>
+        ensures interleaves { Interleaves self.new }
+        ensures goes_on { GoesOn self.old self.new }
+        ensures merged { IfOk result (IsBenched self.old self.new vb (IsNowhere self.old vb stripe) (Merges self.old.config vb stripe)) }
+        ensures err { OnErr result (Spares self.old self.new × BenchIs self.old vb (λ bench. slice_get bench.reads stripe ≡ Some None → ⊥)) }
+    {
+        let Some(bench) = self.benches.get_mut(usize::from(vb)) else {
+            return Ok(Answer::Nothing);
+        };
+        if stripe >= self.config.stripes {
+            return Ok(Answer::Nothing);
         }
+        merge_at(&self.config, &mut self.world, vb, bench, stripe)
     }
 
     /// Makes a step. It answers `Nothing`, and changes nothing, where there is no such vBucket, stripe or caller,
-    /// where `now` is 2^62 or later, and where there is no call, batch or read for it. Where memory is wanting the
-    /// parts and the histories are as they were. A step costs what its call on the parts costs: a Front step time
+    /// where `now` is 2^62 or later, where there is no call, batch or read for it, and where a read comes while it is
+    /// in doubt what the store holds. At an error memory was wanting, and nothing has changed. A step costs what its call on the parts costs: a Front step time
     /// linear in the documents of one stripe, in these flat lists.
     pub fn step(&mut self, alloc: Global, choice: StepChoice) -> Result<Answer, NoMemory>
         ensures interleaves { Interleaves self.new }
         ensures goes_on { GoesOn self.old self.new }
         ensures stepped { IfOk result (Stepped self.old self.new choice) }
+        ensures err { OnErr result (Spares self.old self.new × TakesMemory self.old choice) }
     {
         let _ = &self.config;
         match choice {
             StepChoice::Front { caller, now } => self.front(alloc, caller, now),
-            StepChoice::TakeBatch { vb } => self.take_batch(alloc, vb),
+            StepChoice::TakeBatch { vb } => Ok(self.take_batch(alloc, vb)),
             StepChoice::Commit { vb } => self.commit(alloc, vb),
             StepChoice::Mark { vb, stripe } => self.mark(vb, stripe),
             StepChoice::Read { vb, stripe } => self.read(alloc, vb, stripe),
@@ -207,7 +202,8 @@ impl Core {
     }
 }
 
-/// Makes steps in order: what each answered. Where memory is wanting some of them were made, from the first on.
+/// Makes steps in order: what each answered. At an error memory was wanting, and some of them were made, from the first
+/// on.
 pub fn run_steps(
     alloc: Global,
     core: &mut Core,
@@ -215,13 +211,16 @@ pub fn run_steps(
 ) -> Result<Vec<Answer>, NoMemory>
     ensures interleaves { Interleaves core.new }
     ensures goes_on { GoesOn core.old core.new }
-    ensures count { IfOk result (λ answers. length answers.items ≡ length steps.now) }
+    ensures ran { IfOk result (λ answers. Ran core.old core.new steps.now answers.items) }
+    ensures err { OnErr result (RanSome core.old core.new steps.now) }
 {
     let _ = &core.config;
-    let mut answers = Vec::new(alloc);
+    let Ok(mut answers) = Vec::with_capacity(alloc, steps.len()) else {
+        return Err(NoMemory);
+    };
     for choice in steps {
         match core.step(alloc, *choice) {
-            Ok(answer) => answers.push(answer)?,
+            Ok(answer) => answers.push_reserved(answer),
             Err(NoMemory) => return Err(NoMemory),
         }
     }

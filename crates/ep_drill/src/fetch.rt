@@ -1,5 +1,5 @@
 // Values that are read back from the store for calls that wait for them.
-ghost use Rattle.std.specs.Prelude.{◌≡◌, ◌+◌, ◌≤◌, true, if◌then◌else◌, length, Some, None, IfOk};
+ghost use Rattle.std.specs.Prelude.{◌≡◌, ◌+◌, ◌≤◌, true, if◌then◌else◌, length, Some, None, IsSome, IfSome, IfOk, OnErr};
 ghost use Rattle.ep_model.specs.declared.config.Eviction.TheVariants.{Value as ValueEviction};
 ghost use Rattle.ep_model.specs.declared.event.PartName.{PartName};
 ghost use Rattle.ep_model.specs.declared.event.PartName.TheVariants.{Stripe};
@@ -10,10 +10,11 @@ ghost use Rattle.hold_stage.specs.Touches.{there, same_part};
 ghost use Rattle.hold_stage.specs.Grows.{Same, IsNone, but_this};
 ghost use Rattle.kv_keeper.specs.Content.{Content};
 ghost use Rattle.kv_keeper.specs.Desk.{IsSure};
+ghost use Rattle.kv_keeper.specs.Kept.{Rose};
 ghost use Rattle.ep_drill.specs.Nodes.{first_waiting};
 ghost use Rattle.ep_drill.specs.Stands.{StripeStands, DeskStands, FetchedStands};
 ghost use Rattle.ep_drill.specs.Calls.{AreHome, HasRoom};
-ghost use Rattle.ep_drill.specs.Fetches.{found_data, fetched_data, settles, IsOldest, IsFoundIn, IsCounted, IsBack, IsRead, IsMerged, DeskRead};
+ghost use Rattle.ep_drill.specs.Fetches.{found_data, fetched_data, settles, IsOldest, IsFoundIn, IsCounted, IsBack, IsRead, IsMerged, DeskRead, ReadsOldest, HasWaiting, OnFault};
 
 pub use crate::fetched::{Fetched, Found, Row};
 use crate::flat::data::Outcome;
@@ -42,7 +43,8 @@ pub enum Merging {
 
 // The oldest read that waits in a stripe: its ticket's number and a copy of its key.
 fn copy_oldest(alloc: Global, part: &FlatStripe) -> Result<Option<(u64, Vec<u8>)>, NoMemory>
-    ensures { IfOk result (IsOldest (first_waiting part.now.places)) }
+    ensures ok { IfOk result (IsOldest (first_waiting part.now.places)) }
+    ensures err { OnErr result (IsSome (first_waiting part.now.places)) }
 {
     match part.oldest() {
         None => Ok(None),
@@ -50,35 +52,31 @@ fn copy_oldest(alloc: Global, part: &FlatStripe) -> Result<Option<(u64, Vec<u8>)
     }
 }
 
-// What the store holds of a key. Where memory is wanting for a copy of the value, it has been asked all the same.
-fn read_found<K: Keeper>(
-    alloc: Global,
-    desk: &mut Desk<K>,
-    key: &[u8],
-    value: &mut Out,
-) -> Result<Found, NoMemory>
+// What the store holds of a key.
+fn read_found<K: Keeper>(alloc: Global, desk: &mut Desk<K>, key: &[u8], value: &mut Out) -> Found
     requires sure { IsSure desk.old }
     requires key { IsKey key.now }
     requires value { MAX_VALUE ≤ value.old.spare + length value.old.bytes }
-    ensures found { IfOk result (λ found. (c : Content) → K.content desk.old.keeper ≡ Some c → IsFoundIn c key.now (found_data found)) }
-    ensures counted { IfOk result (λ found. IsCounted desk.old.read_faults desk.new.read_faults (found_data found)) }
+    ensures found { (c : Content) → K.content desk.old.keeper ≡ Some c → IsFoundIn c key.now (found_data result) }
+    ensures counted { IsCounted desk.old.read_faults desk.new.read_faults (found_data result) }
+    ensures rose { OnFault (found_data result) (Rose (K.faults desk.old.keeper) (K.faults desk.new.keeper)) }
     ensures desk { (c : Content) → K.content desk.old.keeper ≡ Some c → DeskRead c (K.content desk.new.keeper) desk.old desk.new }
     ensures value { value.new.spare + length value.new.bytes ≡ value.old.spare + length value.old.bytes }
 {
     value.cut(0);
     match desk.get(alloc, key, value) {
         Kept::Good(Some(meta)) => match value.bytes().to_vec(alloc) {
-            Ok(value) => Ok(Found::Row(Row { meta, value })),
-            Err(_) => Err(NoMemory),
+            Ok(value) => Found::Row(Row { meta, value }),
+            Err(_) => Found::NoMemory,
         },
-        Kept::Good(None) => Ok(Found::Absent),
-        Kept::Failed => Ok(Found::Failed(desk.read_faults())),
-        Kept::NoMemory => Ok(Found::NoMemory),
+        Kept::Good(None) => Found::Absent,
+        Kept::Failed => Found::Failed(desk.read_faults()),
+        Kept::NoMemory => Found::NoMemory,
     }
 }
 
 /// Reads the document of the oldest call that waits in a stripe: none where none waits. No part is held while the
-/// store is asked. Where memory is wanting for copies, the parts and the history are as they were.
+/// store is asked. At an error memory was wanting for a copy of the key, and the store wasn't asked.
 pub(crate) fn fetch_read<S: Stage<Part = Part>, K: Keeper>(
     alloc: Global,
     desk: &mut Desk<K>,
@@ -98,7 +96,11 @@ pub(crate) fn fetch_read<S: Stage<Part = Part>, K: Keeper>(
     requires value { value.old.spare + length value.old.bytes ≡ MAX_VALUE }
     ensures stays { (S.lent stage.new ≡ S.lent stage.old) × (S.fixed stage.new ≡ S.fixed stage.old) × (S.number stage.new ≡ S.number stage.old) × (S.is_desk stage.new ≡ S.is_desk stage.old) × (S.is_telling stage.new ≡ S.is_telling stage.old) }
     ensures front { S.front stage.new ≡ S.front stage.old }
+    ensures oldest { IfOk result (ReadsOldest (S.tells stage.old (Stripe stripe))) }
     ensures read { IfOk result (IsRead (S.front stage.old) stripe desk.old.read_faults desk.new.read_faults) }
+    ensures rose { IfOk result (λ read. IfSome read (λ fetched. OnFault (found_data fetched.found) (Rose (K.faults desk.old.keeper) (K.faults desk.new.keeper)))) }
+    ensures err { OnErr result ((desk.new ≡ desk.old) × HasWaiting (S.tells stage.old (Stripe stripe))) }
+    ensures parts { (p : PartName) → there (S.front stage.old).config p ≡ true → S.tells stage.new p ≡ S.tells stage.old p }
     ensures desk { DeskRead content (K.content desk.new.keeper) desk.old desk.new }
     ensures free { Same (S.holds stage.new) (S.holds stage.old) }
     ensures home { AreHome (S.front stage.old).config (S.tells stage.new) }
@@ -110,13 +112,11 @@ pub(crate) fn fetch_read<S: Stage<Part = Part>, K: Keeper>(
     match oldest {
         Err(NoMemory) => Err(NoMemory),
         Ok(None) => Ok(None),
-        Ok(Some((number, key))) => match read_found(alloc, desk, &key, value) {
-            Err(NoMemory) => Err(NoMemory),
-            Ok(found) => {
-                let ticket = Ticket { stripe, number };
-                Ok(Some(Fetched { ticket, key, found }))
-            }
-        },
+        Ok(Some((number, key))) => {
+            let found = read_found(alloc, desk, &key, value);
+            let ticket = Ticket { stripe, number };
+            Ok(Some(Fetched { ticket, key, found }))
+        }
     }
 }
 

@@ -166,6 +166,7 @@ impl Core {
         requires fresh { AreFresh keepers.items }
         ensures interleaves { IfOk result (λ core. Interleaves core) }
         ensures layout { IfOk result (λ core. core.config ≡ config.now) }
+        ensures opened { IfOk result (λ core. FirstOpened config.now config.now.vbuckets core.world) }
         ensures callers { IfOk result (λ core. core.callers ≡ copies callers idle) }
         ensures benches { IfOk result (λ core. core.benches ≡ map (bench_over (copies config.now.stripes None)) keepers.items) }
         ensures err { IfErr result (λ refused. IsRefusal config.now refused.0 × (refused.1.items ≡ keepers.items)) }

@@ -12,10 +12,11 @@ ghost use Rattle.hold_stage.specs.Mutations.{laid_on};
 ghost use Rattle.kv_keeper.specs.Batch.{laid, AreWithin};
 ghost use Rattle.kv_keeper.specs.Content.{Content};
 ghost use Rattle.kv_keeper.specs.Desk.{IsSure};
+ghost use Rattle.kv_keeper.specs.Kept.{Rose};
 ghost use Rattle.ep_drill.specs.Steps.{page_step};
 ghost use Rattle.ep_drill.specs.Stands.{DeskStands, BatchStands};
 ghost use Rattle.ep_drill.specs.Calls.{AreHome, HasRoom};
-ghost use Rattle.ep_drill.specs.Answers.{IsMarked, IsPaged, IsTaken, IsFlushed};
+ghost use Rattle.ep_drill.specs.Answers.{IsMarked, IsPaged, IsTaken, IsFlushed, OnFailed};
 
 use crate::flat::queue::FlatQueue;
 use crate::hold::{take_desk, take_queue, take_stripe};
@@ -172,6 +173,7 @@ pub(crate) fn commit_batch<S: Stage<Part = Part>>(
     requires room { HasRoom 0 (S.covers stage.old) }
     ensures stays { (S.lent stage.new ≡ S.lent stage.old) × (S.fixed stage.new ≡ S.fixed stage.old) × (S.number stage.new ≡ S.number stage.old) × (S.is_desk stage.new ≡ S.is_desk stage.old) × (S.is_telling stage.new ≡ S.is_telling stage.old) }
     ensures flushed { IsFlushed (S.front stage.old) (S.front stage.new) (Some desk.new.keeper.content) desk.old desk.new batch.now result }
+    ensures rose { OnFailed result (Rose desk.old.keeper.faults desk.new.keeper.faults) }
     ensures free { Same (S.holds stage.new) (S.holds stage.old) }
     ensures home { AreHome (S.front stage.old).config (S.tells stage.new) }
 {

@@ -1,12 +1,16 @@
 // Steps at the bench of one vBucket of a world, each with room for the event that it notes.
-ghost use Rattle.std.specs.Prelude.{◌≡◌, ◌+◌, ◌<◌, ◌≤◌, length, slice_get, Some, None, IfSome, IfOk, OnErr, OnSome};
+ghost use Rattle.std.specs.Prelude.{◌≡◌, ◌+◌, ◌<◌, length, slice_get, IsSome, Some, None, IfOk, OnErr};
+ghost use Rattle.ep_model.specs.declared.event.PartName.TheVariants.{Stripe};
 ghost use Rattle.ep_model.specs.declared.limits.TheConstants.{MAX_VALUE};
-ghost use Rattle.vb_world.specs.World.{front_in, Sound};
+ghost use Rattle.vb_world.specs.World.{front_in, part_in, Sound};
 ghost use Rattle.ep_drill.specs.Parts.{part_stands};
-ghost use Rattle.ep_drill.specs.Core.{bench_data, count_of, BenchStands, Ready, Moved, Worked};
+ghost use Rattle.ep_drill.specs.Fetches.{HasWaiting};
+ghost use Rattle.ep_drill.specs.Core.{bench_data, BenchStands, Ready, Moved, Rested, Worked};
+ghost use Rattle.ep_drill.specs.Works.{Takes, Commits, Fetches, Merges};
 
 use crate::bench::Bench;
-use crate::fetch::{Merging, fetch_merge, fetch_read};
+use crate::choice::Answer;
+use crate::fetch::{fetch_merge, fetch_read};
 use crate::part::Part;
 use crate::store::{Flushed, commit_batch, take_batch};
 use crate::worked::WORKER;
@@ -15,23 +19,28 @@ use std::alloc::Global;
 use std::mem;
 use vb_world::World;
 
-/// Copies what isn't stored yet, in place of a batch that isn't committed: how many documents.
+/// Copies what isn't stored yet, in place of a batch that isn't committed: how many documents. Where it is in doubt
+/// what the store holds, nothing is copied.
 pub(crate) fn take_at(
     alloc: Global,
     config: &Config,
     world: &mut World<Part>,
     vb: u16,
     bench: &mut Bench,
-) -> Result<u32, NoMemory>
+) -> Answer
     requires ready { Ready config.now world.old }
     requires vb { vb < config.now.vbuckets }
+    requires sound { Sound part_stands world.old }
     requires bench { BenchStands (front_in world.old vb) (bench_data bench.old) }
-    requires sure { (bench_data bench.old).desk.doubt ≡ None }
-    ensures count { IfOk result (λ count. count ≡ count_of (bench_data bench.new).batch) }
+    ensures taken { Takes config.now vb result world.old world.new (bench_data bench.old) (bench_data bench.new) }
     ensures moved { Moved config.now vb None world.old world.new }
     ensures bench { BenchStands (front_in world.new vb) (bench_data bench.new) }
     ensures sound { Sound part_stands world.new }
 {
+    if !bench.desk.is_sure() {
+        return Answer::Flushed(Flushed::Failed);
+    }
+    bench.batch = None;
     let mut stage = world.stage(vb, WORKER);
     let taken = take_batch(alloc, &bench.desk, &mut stage);
     let _count = world.count();
@@ -39,54 +48,54 @@ pub(crate) fn take_at(
         Ok(Some(batch)) => {
             let count = batch.count();
             bench.batch = Some(batch);
-            Ok(u32::try_from(count).unwrap_or(u32::MAX))
+            Answer::Took(u32::try_from(count).unwrap_or(u32::MAX))
         }
-        Ok(None) => {
-            bench.batch = None;
-            Ok(0)
-        }
-        Err(NoMemory) => Err(NoMemory),
+        Ok(None) => Answer::Took(0),
+        Err(NoMemory) => Answer::Flushed(Flushed::NoMemory),
     }
 }
 
-/// Commits the batch: none where there is none. Where memory is wanting the batch stays.
+/// Commits the batch: nothing is done where there is none. Where memory is wanting the batch stays.
 pub(crate) fn commit_at(
     alloc: Global,
     config: &Config,
     world: &mut World<Part>,
     vb: u16,
     bench: &mut Bench,
-) -> Result<Option<Flushed>, NoMemory>
+) -> Result<Answer, NoMemory>
     requires ready { Ready config.now world.old }
     requires vb { vb < config.now.vbuckets }
+    requires sound { Sound part_stands world.old }
     requires bench { BenchStands (front_in world.old vb) (bench_data bench.old) }
+    ensures ok { IfOk result (λ answer. Commits config.now vb answer world.old world.new (bench_data bench.old) (bench_data bench.new)) }
+    ensures err { OnErr result (Rested config.now world.old world.new × (bench_data bench.new ≡ bench_data bench.old) × IsSome (bench_data bench.old).batch) }
     ensures worked { Worked config.now vb world.old world.new }
     ensures bench { BenchStands (front_in world.new vb) (bench_data bench.new) }
     ensures sound { Sound part_stands world.new }
 {
-    if world.reserve(1, 0).is_err() {
-        return Err(NoMemory);
-    }
     let Some(batch) = mem::replace(&mut bench.batch, None) else {
-        return Ok(None);
+        return Ok(Answer::Nothing);
     };
     let _rows = batch.count();
+    if world.reserve(1, 0).is_err() {
+        bench.batch = Some(batch);
+        return Err(NoMemory);
+    }
     let mut stage = world.stage(vb, WORKER);
     let flushed = commit_batch(alloc, &mut bench.desk, &mut stage, &batch);
     let _count = world.count();
     match flushed {
-        Flushed::Stored(number) => Ok(Some(Flushed::Stored(number))),
-        Flushed::Failed => Ok(Some(Flushed::Failed)),
+        Flushed::Stored(number) => Ok(Answer::Flushed(Flushed::Stored(number))),
+        Flushed::Failed => Ok(Answer::Flushed(Flushed::Failed)),
         Flushed::NoMemory => {
             bench.batch = Some(batch);
-            Ok(Some(Flushed::NoMemory))
+            Ok(Answer::Flushed(Flushed::NoMemory))
         }
     }
 }
 
-/// Reads the document of the oldest call that waits in a stripe: whether one waits. What was read before and isn't
-/// merged is dropped then.
-pub(crate) fn read_at(
+// Reads for a stripe of a vBucket where it isn't in doubt what the store holds.
+fn read_sure(
     alloc: Global,
     config: &Config,
     world: &mut World<Part>,
@@ -94,13 +103,16 @@ pub(crate) fn read_at(
     bench: &mut Bench,
     stripe: u16,
     value: &mut Out,
-) -> Result<bool, NoMemory>
+) -> Result<Answer, NoMemory>
     requires ready { Ready config.now world.old }
     requires vb { vb < config.now.vbuckets }
     requires stripe { stripe < config.now.stripes }
+    requires sound { Sound part_stands world.old }
+    requires sure { bench.old.desk.doubt ≡ None }
     requires bench { BenchStands (front_in world.old vb) (bench_data bench.old) }
-    requires sure { (bench_data bench.old).desk.doubt ≡ None }
     requires value { value.old.spare + length value.old.bytes ≡ MAX_VALUE }
+    ensures ok { IfOk result (λ answer. Fetches config.now vb stripe answer world.old world.new (bench_data bench.old) (bench_data bench.new)) }
+    ensures err { OnErr result (Rested config.now world.old world.new × (bench_data bench.new ≡ bench_data bench.old) × ((bench_data bench.old).desk.doubt ≡ None) × HasWaiting (part_in world.old vb (Stripe stripe))) }
     ensures moved { Moved config.now vb None world.old world.new }
     ensures bench { BenchStands (front_in world.new vb) (bench_data bench.new) }
     ensures sound { Sound part_stands world.new }
@@ -112,37 +124,72 @@ pub(crate) fn read_at(
     match read {
         Ok(Some(fetched)) => {
             bench.reads[usize::from(stripe)] = Some(fetched);
-            Ok(true)
+            Ok(Answer::Read(true))
         }
-        Ok(None) => Ok(false),
+        Ok(None) => Ok(Answer::Read(false)),
         Err(NoMemory) => Err(NoMemory),
     }
 }
 
-/// Ends a read for whoever still waits for it: none where there is none.
+/// Reads the document of the oldest call that waits in a stripe: whether one waits. What was read before and isn't
+/// merged is dropped then. Where it is in doubt what the store holds, nothing is done.
+pub(crate) fn read_at(
+    alloc: Global,
+    config: &Config,
+    world: &mut World<Part>,
+    vb: u16,
+    bench: &mut Bench,
+    stripe: u16,
+    value: &mut Out,
+) -> Result<Answer, NoMemory>
+    requires ready { Ready config.now world.old }
+    requires vb { vb < config.now.vbuckets }
+    requires stripe { stripe < config.now.stripes }
+    requires sound { Sound part_stands world.old }
+    requires bench { BenchStands (front_in world.old vb) (bench_data bench.old) }
+    requires value { value.old.spare + length value.old.bytes ≡ MAX_VALUE }
+    ensures ok { IfOk result (λ answer. Fetches config.now vb stripe answer world.old world.new (bench_data bench.old) (bench_data bench.new)) }
+    ensures err { OnErr result (Rested config.now world.old world.new × (bench_data bench.new ≡ bench_data bench.old) × ((bench_data bench.old).desk.doubt ≡ None) × HasWaiting (part_in world.old vb (Stripe stripe))) }
+    ensures moved { Moved config.now vb None world.old world.new }
+    ensures bench { BenchStands (front_in world.new vb) (bench_data bench.new) }
+    ensures sound { Sound part_stands world.new }
+    ensures value { value.new.spare + length value.new.bytes ≡ MAX_VALUE }
+{
+    if !bench.desk.is_sure() {
+        return Ok(Answer::Nothing);
+    }
+    read_sure(alloc, config, world, vb, bench, stripe, value)
+}
+
+/// Ends a read for whoever still waits for it: nothing is done where there is none. Where memory is wanting the read
+/// stays.
 pub(crate) fn merge_at(
     config: &Config,
     world: &mut World<Part>,
     vb: u16,
     bench: &mut Bench,
     stripe: u16,
-) -> Result<Option<Merging>, NoMemory>
+) -> Result<Answer, NoMemory>
     requires ready { Ready config.now world.old }
     requires vb { vb < config.now.vbuckets }
     requires stripe { stripe < config.now.stripes }
+    requires sound { Sound part_stands world.old }
     requires bench { BenchStands (front_in world.old vb) (bench_data bench.old) }
+    ensures ok { IfOk result (λ answer. Merges config.now vb stripe answer world.old world.new (bench_data bench.old) (bench_data bench.new)) }
+    ensures err { OnErr result (Rested config.now world.old world.new × (bench_data bench.new ≡ bench_data bench.old) × (slice_get (bench_data bench.old).reads stripe ≡ Some None → ⊥)) }
     ensures worked { Worked config.now vb world.old world.new }
     ensures bench { BenchStands (front_in world.new vb) (bench_data bench.new) }
     ensures sound { Sound part_stands world.new }
 {
+    let Some(fetched) = mem::replace(&mut bench.reads[usize::from(stripe)], None) else {
+        return Ok(Answer::Nothing);
+    };
     if world.reserve(1, 0).is_err() {
+        bench.reads[usize::from(stripe)] = Some(fetched);
         return Err(NoMemory);
     }
-    let Some(fetched) = mem::replace(&mut bench.reads[usize::from(stripe)], None) else {
-        return Ok(None);
-    };
     let mut stage = world.stage(vb, WORKER);
     let merging = fetch_merge(&mut stage, fetched);
     let _count = world.count();
-    Ok(Some(merging))
+    Ok(Answer::Merged(merging))
 }

@@ -14,6 +14,7 @@ ghost use Rattle.hold_stage.specs.Touches.{there, bytes_of};
 ghost use Rattle.hold_stage.specs.Grows.{Same, IsNone, Covered, IsOwn};
 ghost use Rattle.ep_drill.specs.Stands.{PriorsStand};
 ghost use Rattle.ep_drill.specs.Calls.{is_prior, event_of, noted, AreHome, HasRoom};
+ghost use Rattle.ep_drill.specs.Tries.{Gets, Sets};
 
 use crate::flat::data::Step;
 use crate::flat::write::write;
@@ -106,7 +107,9 @@ pub(crate) fn try_get<S: Stage<Part = Part>>(
     requires value { (value.old.bytes ≡ []) × (value.old.spare ≡ MAX_VALUE) }
     ensures stays { (S.lent stage.new ≡ S.lent stage.old) × (S.fixed stage.new ≡ S.fixed stage.old) × (S.number stage.new ≡ S.number stage.old) × (S.is_desk stage.new ≡ S.is_desk stage.old) × (S.is_telling stage.new ≡ S.is_telling stage.old) }
     ensures front { IfOk result (λ step. S.front stage.new ≡ noted (S.front stage.old) (event_of (S.number stage.old) (GetData key.now) now prior value.new.bytes step)) }
+    ensures comes { IfOk result (Gets stripes (S.tells stage.old) (S.tells stage.new) prior key.now now) }
     ensures err { OnErr result (S.front stage.new ≡ S.front stage.old) }
+    ensures parts { OnErr result ((p : PartName) → there (S.front stage.old).config p ≡ true → S.tells stage.new p ≡ S.tells stage.old p) }
     ensures free { Same (S.holds stage.new) (S.holds stage.old) }
     ensures home { AreHome (S.front stage.old).config (S.tells stage.new) }
     ensures value { value.new.spare + length value.new.bytes ≡ MAX_VALUE }
@@ -149,7 +152,9 @@ pub(crate) fn try_set<S: Stage<Part = Part>>(
     requires moment { now < 2 ^ 62 }
     ensures stays { (S.lent stage.new ≡ S.lent stage.old) × (S.fixed stage.new ≡ S.fixed stage.old) × (S.number stage.new ≡ S.number stage.old) × (S.is_desk stage.new ≡ S.is_desk stage.old) × (S.is_telling stage.new ≡ S.is_telling stage.old) }
     ensures front { IfOk result (λ step. S.front stage.new ≡ noted (S.front stage.old) (event_of (S.number stage.old) (StoreData SetKind key.now value.now flags expiration cas) now prior [] step)) }
+    ensures comes { IfOk result (Sets config.now.stripes (fit_of config.now) (S.tells stage.old) (S.tells stage.new) prior key.now value.now flags expiration cas now) }
     ensures err { OnErr result (S.front stage.new ≡ S.front stage.old) }
+    ensures parts { OnErr result ((p : PartName) → there (S.front stage.old).config p ≡ true → S.tells stage.new p ≡ S.tells stage.old p) }
     ensures free { Same (S.holds stage.new) (S.holds stage.old) }
     ensures home { AreHome (S.front stage.old).config (S.tells stage.new) }
 {

@@ -1,11 +1,12 @@
 // A caller's turn: its next call is tried.
-ghost use Rattle.std.specs.Prelude.{◌≡◌, ◌+◌, ◌^◌, ◌<◌, length, Some, None, IfOk, OnErr};
+ghost use Rattle.std.specs.Prelude.{◌≡◌, ◌+◌, ◌^◌, ◌<◌, length, Some, None, IsSome, IfOk, OnErr};
 ghost use Rattle.std.specs.List.{AllByRecursion};
 ghost use Rattle.ep_model.specs.declared.limits.TheConstants.{MAX_VALUE};
 ghost use Rattle.vb_world.specs.World.{front_in, Sound};
 ghost use Rattle.ep_drill.specs.Parts.{part_stands};
-ghost use Rattle.ep_drill.specs.Callers.{CallerStands, caller_data, after_step, refusal, tried_of};
-ghost use Rattle.ep_drill.specs.Core.{answer_of, IsOn, Ready, Rested, Turned};
+ghost use Rattle.ep_drill.specs.Callers.{CallerStands, caller_data, next_of, after_step, refusal, tried_of};
+ghost use Rattle.ep_drill.specs.Core.{IsOn, Ready, Rested, Turned};
+ghost use Rattle.ep_drill.specs.Stepped.{answer_of};
 
 use crate::choice::{Answer, Tried};
 use crate::flat::data::Step;
@@ -94,7 +95,7 @@ pub(crate) fn try_next(
     requires moment { now < 2 ^ 62 }
     requires value { value.old.spare + length value.old.bytes ≡ MAX_VALUE }
     ensures ok { IfOk result (Turned config.now number now world.old world.new (caller_data caller.old) (caller_data caller.new) value.new.bytes) }
-    ensures err { OnErr result (Rested config.now world.old world.new × (caller_data caller.new ≡ caller_data caller.old)) }
+    ensures err { OnErr result (Rested config.now world.old world.new × (caller_data caller.new ≡ caller_data caller.old) × IsSome (next_of (caller_data caller.old))) }
     ensures sound { Sound part_stands world.new }
     ensures value { value.new.spare + length value.new.bytes ≡ MAX_VALUE }
 {

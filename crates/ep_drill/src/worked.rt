@@ -4,21 +4,25 @@ ghost use Rattle.ep_model.specs.declared.call.StoreKind.TheVariants.{Set as SetK
 ghost use Rattle.ep_model.specs.declared.data.CallData.TheVariants.{Get as GetData, Store as StoreData};
 ghost use Rattle.ep_model.specs.declared.event.PartName.TheVariants.{Stripe};
 ghost use Rattle.ep_model.specs.declared.limits.TheConstants.{MAX_VALUE};
+ghost use Rattle.ep_model.specs.Config.{fit_of};
 ghost use Rattle.ep_model.specs.Front.{world_of};
 ghost use Rattle.ep_model.specs.Limits.{IsKey, IsValue};
 ghost use Rattle.vb_world.specs.World.{front_in, part_in, Sound};
 ghost use Rattle.ep_drill.specs.Parts.{part_stands};
 ghost use Rattle.ep_drill.specs.Stands.{PriorsStand};
 ghost use Rattle.ep_drill.specs.Calls.{event_of};
-ghost use Rattle.ep_drill.specs.Answers.{IsMarked, IsPaged};
+ghost use Rattle.ep_drill.specs.Answers.{IsPaged};
 ghost use Rattle.ep_drill.specs.Callers.{owned_data};
-ghost use Rattle.ep_drill.specs.Core.{bench_data, BenchStands, Ready, Moved, Worked};
+ghost use Rattle.ep_drill.specs.Core.{bench_data, BenchStands, Ready, Moved, Rested, Worked};
+ghost use Rattle.ep_drill.specs.Tries.{Gets, Sets, ComesTo};
+ghost use Rattle.ep_drill.specs.Works.{Marks};
 
 use crate::bench::Bench;
+use crate::choice::Answer;
 use crate::flat::data::Step;
 use crate::owned::{Loaded, OwnedCall, OwnedKey, OwnedSet};
 use crate::part::Part;
-use crate::store::{Marking, Paged, mark_once, page_once};
+use crate::store::{Paged, mark_once, page_once};
 use crate::tried::{EVENT_BYTES, try_get, try_set};
 use ep_model::{Config, NoMemory, Out, Ticket};
 use std::alloc::Global;
@@ -44,7 +48,8 @@ fn get_at(
     requires prior { PriorsStand (front_in world.old vb) number (GetData key.now.bytes.items) prior }
     requires value { (value.old.bytes ≡ []) × (value.old.spare ≡ MAX_VALUE) }
     ensures ok { IfOk result (λ step. Moved config.now vb (event_of number (GetData key.now.bytes.items) now prior value.new.bytes step) world.old world.new) }
-    ensures err { OnErr result (Moved config.now vb None world.old world.new) }
+    ensures comes { IfOk result (Gets config.now.stripes (part_in world.old vb) (part_in world.new vb) prior key.now.bytes.items now) }
+    ensures err { OnErr result (Rested config.now world.old world.new) }
     ensures sound { Sound part_stands world.new }
     ensures value { value.new.spare + length value.new.bytes ≡ MAX_VALUE }
 {
@@ -80,7 +85,8 @@ fn set_at(
     requires vb { vb < config.now.vbuckets }
     requires moment { now < 2 ^ 62 }
     ensures ok { IfOk result (λ step. Moved config.now vb (event_of number (StoreData SetKind call.now.key.bytes.items call.now.value.items call.now.flags call.now.expiration call.now.cas) now prior [] step) world.old world.new) }
-    ensures err { OnErr result (Moved config.now vb None world.old world.new) }
+    ensures comes { IfOk result (Sets config.now.stripes (fit_of config.now) (part_in world.old vb) (part_in world.new vb) prior call.now.key.bytes.items call.now.value.items call.now.flags call.now.expiration call.now.cas now) }
+    ensures err { OnErr result (Rested config.now world.old world.new) }
     ensures sound { Sound part_stands world.new }
 {
     if world.reserve(1, EVENT_BYTES).is_err() {
@@ -121,7 +127,8 @@ pub(crate) fn try_loaded(
     requires moment { now < 2 ^ 62 }
     requires value { (value.old.bytes ≡ []) × (value.old.spare ≡ MAX_VALUE) }
     ensures ok { IfOk result (λ step. Moved config.now loaded.now.vb (event_of number (owned_data loaded.now.call) now prior value.new.bytes step) world.old world.new) }
-    ensures err { OnErr result (Moved config.now loaded.now.vb None world.old world.new) }
+    ensures comes { IfOk result (ComesTo config.now (part_in world.old loaded.now.vb) (part_in world.new loaded.now.vb) (owned_data loaded.now.call) now prior) }
+    ensures err { OnErr result (Rested config.now world.old world.new) }
     ensures sound { Sound part_stands world.new }
     ensures value { value.new.spare + length value.new.bytes ≡ MAX_VALUE }
 {
@@ -139,12 +146,13 @@ pub(crate) fn mark_at(
     vb: u16,
     bench: &Bench,
     stripe: u16,
-) -> Result<Marking, NoMemory>
+) -> Result<Answer, NoMemory>
     requires ready { Ready config.now world.old }
     requires vb { vb < config.now.vbuckets }
     requires stripe { stripe < config.now.stripes }
     requires bench { BenchStands (front_in world.old vb) (bench_data bench.now) }
-    ensures ok { IfOk result (λ marking. IsMarked (front_in world.old vb) (front_in world.new vb) stripe (bench_data bench.now).desk.noted marking) }
+    ensures ok { IfOk result (λ answer. Marks config.now vb stripe answer world.old world.new (bench_data bench.now) (bench_data bench.now)) }
+    ensures err { OnErr result (Rested config.now world.old world.new) }
     ensures worked { Worked config.now vb world.old world.new }
     ensures bench { BenchStands (front_in world.new vb) (bench_data bench.now) }
     ensures sound { Sound part_stands world.new }
@@ -155,7 +163,7 @@ pub(crate) fn mark_at(
     let mut stage = world.stage(vb, WORKER);
     let marking = mark_once(&bench.desk, &mut stage, stripe);
     let _count = world.count();
-    Ok(marking)
+    Ok(Answer::Marked(marking))
 }
 
 /// Ejects all values of a stripe that are stored.

@@ -1,8 +1,18 @@
-use Rattle.std.proofs.Common.{length, ap}
-use Rattle.ep_drill.proofs.TurnLemmas.{kept_still}
+use Rattle.std.proofs.Common.{rules, sym, subst, List, ◌+◌, take}
+use Rattle.ep_drill.specs.declared.choice.Answer.{Answer}
+use Rattle.ep_drill.specs.Stepped.{Ran}
+use Rattle.ep_drill.proofs.SteppedLemmas.{ran_next}
+use Rattle.ep_drill.proofs.TurnLemmas.{goes_on_then}
 use Rattle.ep_drill.proofs.engine.run_steps.Goals as goal
 
-pub loop-choice-init : goal.loop-choice-init
-loop-choice-init c =
-    let k = kept_still _ c.args.core.now c.core.view_is c.core.invariant.0 in
-    record { interleaves = k.0; goes_on = k.1; count = ap (λ l. length l) c.new-answers.ensures.items }
+pub loop-choice-preserved : goal.loop-choice-preserved
+loop-choice-preserved c =
+    let l = c.loop-choice in
+    record {
+      interleaves = c.step.ensures.interleaves;
+      goes_on = goes_on_then c.args.core.now l.core c.step.new.self l.invariant.goes_on c.step.ensures.goes_on;
+      ran = subst (λ (said : List Answer). Ran c.args.core.now c.step.new.self (take (l.choice-index + 1) c.args.steps.now) said) (sym c.push_reserved.ensures.items)
+          (ran_next c.args.core.now l.core c.step.new.self c.args.steps.now l.answers.items l.choice-index _ c.in-Ok-step.answer c.loop-choice-test.true l.invariant.ran c.in-Ok-step.ensures.stepped c.step.ensures.goes_on c.step.ensures.interleaves);
+      count = search rules;
+      room = search rules;
+    }

@@ -1,10 +1,11 @@
-use Rattle.std.proofs.Common.{◌∙◌, ap}
+use Rattle.std.proofs.Common.{◌∙◌, ap, sym, subst}
 use Rattle.ep_model.specs.declared.event.PartName.TheVariants.{Stripe}
 use Rattle.ep_model.specs.declared.data.EventData.TheVariants as events
 use Rattle.ep_model.specs.declared.data.FrontData.{FrontData}
 use Rattle.ep_model.specs.Front.{with_event}
 use Rattle.ep_drill.specs.declared.flat.data.Outcome.TheVariants as outcomes
-use Rattle.ep_drill.specs.Fetches.{found_data}
+use Rattle.ep_drill.specs.declared.flat.data.FoundData.{FoundData}
+use Rattle.ep_drill.specs.Fetches.{found_data, IsRow}
 use Rattle.ep_drill.proofs.FetchLemmas.{has_place, merged_at, never_at, absent_at, no_memory_at, fail_covers, fail_own, fail_may, fail_desk, fail_stripe, part_place, part_outcome, back_outcome, back_value}
 use Rattle.ep_drill.proofs.fetch.fetch_merge.Goals as goal
 
@@ -90,6 +91,7 @@ returns-then-put_back-clause-merged g c =
           (ap (λ (f : FrontData). f.config) t.ensures.front) c.requires.there telling c.settle.ensures.tells a.key.items c.deref.result.now row.meta row.value.items t.result c.put_back.result c.deref.ensures.value c.put_back.ensures c.if-put_back.true has,
       back_value (g.S.Stage.front c.args.stage.now) (g.S.Stage.front t.new.stage) a.ticket (g.S.Stage.is_telling t.new.stage) (g.S.Stage.tells t.new.stage) (g.S.Stage.tells c.settle.new.stage) y outcomes.Merged
           (ap (λ (f : FrontData). f.config) t.ensures.front) c.requires.there telling c.settle.ensures.tells a.key.items c.deref.result.now row.meta row.value.items t.result c.put_back.result c.deref.ensures.value c.put_back.ensures c.if-put_back.true,
+      subst (λ (o : FoundData). IsRow o) (sym (ap found_data c.in-Row.is)) tt,
     )
 
 pub returns-in-Row-clause-merged : goal.returns-in-Row-clause-merged

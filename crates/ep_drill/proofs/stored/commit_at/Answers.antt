@@ -1,8 +1,12 @@
-use Rattle.std.proofs.Common.{rules, ◌≡◌, Some, sym, ◌∙◌}
+use Rattle.std.proofs.Common.{rules, ◌≡◌, Some, refl, sym, ap, ◌∙◌}
+use Rattle.std.specs.Prelude.{Option}
+use Rattle.kv_keeper.specs.declared.data.BatchData.{BatchData}
 use Rattle.vb_world.specs.World.{front_in, Sound}
 use Rattle.ep_drill.specs.declared.store.Flushed.TheVariants as flushes
 use Rattle.ep_drill.specs.Parts.{part_stands}
 use Rattle.ep_drill.specs.Core.{bench_data, BenchStands, Worked}
+use Rattle.ep_drill.specs.Works.{WasFlushed}
+use Rattle.ep_drill.proofs.BenchedLemmas.{was_flushed}
 use Rattle.ep_drill.proofs.MergedLemmas.{flushed_at, commit_ready, commit_left, commit_again}
 use Rattle.ep_drill.proofs.stored.commit_at.Goals as goal
 
@@ -86,4 +90,34 @@ returns-in-NoMemory-clause-bench c =
     let b : BenchStands (front_in c.commit_batch-flushed.new.stage.world.now c.args.vb) (bench_data (record { desk = c.commit_batch-flushed.new.desk; batch = Some c.in-Some.batch; reads = c.args.bench.now.reads })) =
     commit_again c.args.world.now c.reserve.new.self c.stage-stage.result.world.now c.commit_batch-flushed.new.stage.world.now c.args.vb c.stage-stage.result.vb c.commit_batch-flushed.new.stage.vb c.reserve.new.self.event_room c.reserve.new.self.byte_room (bench_data c.args.bench.now) c.commit_batch-flushed.new.desk c.in-Some.batch
     c.reserve.ensures.same c.stage-stage.ensures.world c.stage-stage.ensures.vb c.commit_batch-flushed.ensures.stays.1 c.reserve.ensures.sound sound c.requires.bench is c.in-NoMemory.ensures.flushed in
+    search rules
+
+-- src/stored.rt
+pub returns-in-Stored-clause-ok : goal.returns-in-Stored-clause-ok
+returns-in-Stored-clause-ok c =
+    let is : (bench_data c.args.bench.now).batch ≡ Some c.in-Some.batch = sym c.replace.ensures.value ∙ c.in-Some.is in
+    let f : WasFlushed c.args.config.now c.args.vb (flushes.Stored c.in-Stored.number) c.args.world.now c.commit_batch-flushed.new.stage.world.now (bench_data c.args.bench.now) (bench_data (record { desk = c.commit_batch-flushed.new.desk; batch = c.replace.new.dest; reads = c.args.bench.now.reads })) =
+    was_flushed c.args.config.now c.args.world.now c.reserve.new.self c.stage-stage.result.world.now c.commit_batch-flushed.new.stage.world.now c.args.vb c.stage-stage.result.vb c.commit_batch-flushed.new.stage.vb c.reserve.new.self.event_room c.reserve.new.self.byte_room
+    c.requires.ready c.requires.vb c.reserve.ensures.same c.stage-stage.ensures.world c.stage-stage.ensures.vb c.commit_batch-flushed.ensures.stays.1 c.commit_batch-flushed.ensures.home
+    (bench_data c.args.bench.now) (bench_data (record { desk = c.commit_batch-flushed.new.desk; batch = c.replace.new.dest; reads = c.args.bench.now.reads })) c.commit_batch-flushed.new.desk c.in-Some.batch (flushes.Stored c.in-Stored.number) is (ap (λ (o : Option BatchData). record (bench_data c.args.bench.now) { desk = c.commit_batch-flushed.new.desk; batch = o }) c.replace.ensures.after) c.in-Stored.ensures.flushed c.in-Stored.ensures.rose in
+    search rules
+
+-- src/stored.rt
+pub returns-in-Failed-clause-ok : goal.returns-in-Failed-clause-ok
+returns-in-Failed-clause-ok c =
+    let is : (bench_data c.args.bench.now).batch ≡ Some c.in-Some.batch = sym c.replace.ensures.value ∙ c.in-Some.is in
+    let f : WasFlushed c.args.config.now c.args.vb flushes.Failed c.args.world.now c.commit_batch-flushed.new.stage.world.now (bench_data c.args.bench.now) (bench_data (record { desk = c.commit_batch-flushed.new.desk; batch = c.replace.new.dest; reads = c.args.bench.now.reads })) =
+    was_flushed c.args.config.now c.args.world.now c.reserve.new.self c.stage-stage.result.world.now c.commit_batch-flushed.new.stage.world.now c.args.vb c.stage-stage.result.vb c.commit_batch-flushed.new.stage.vb c.reserve.new.self.event_room c.reserve.new.self.byte_room
+    c.requires.ready c.requires.vb c.reserve.ensures.same c.stage-stage.ensures.world c.stage-stage.ensures.vb c.commit_batch-flushed.ensures.stays.1 c.commit_batch-flushed.ensures.home
+    (bench_data c.args.bench.now) (bench_data (record { desk = c.commit_batch-flushed.new.desk; batch = c.replace.new.dest; reads = c.args.bench.now.reads })) c.commit_batch-flushed.new.desk c.in-Some.batch flushes.Failed is (ap (λ (o : Option BatchData). record (bench_data c.args.bench.now) { desk = c.commit_batch-flushed.new.desk; batch = o }) c.replace.ensures.after) c.in-Failed.ensures.flushed c.in-Failed.ensures.rose in
+    search rules
+
+-- src/stored.rt
+pub returns-in-NoMemory-clause-ok : goal.returns-in-NoMemory-clause-ok
+returns-in-NoMemory-clause-ok c =
+    let is : (bench_data c.args.bench.now).batch ≡ Some c.in-Some.batch = sym c.replace.ensures.value ∙ c.in-Some.is in
+    let f : WasFlushed c.args.config.now c.args.vb flushes.NoMemory c.args.world.now c.commit_batch-flushed.new.stage.world.now (bench_data c.args.bench.now) (bench_data (record { desk = c.commit_batch-flushed.new.desk; batch = Some c.in-Some.batch; reads = c.args.bench.now.reads })) =
+    was_flushed c.args.config.now c.args.world.now c.reserve.new.self c.stage-stage.result.world.now c.commit_batch-flushed.new.stage.world.now c.args.vb c.stage-stage.result.vb c.commit_batch-flushed.new.stage.vb c.reserve.new.self.event_room c.reserve.new.self.byte_room
+    c.requires.ready c.requires.vb c.reserve.ensures.same c.stage-stage.ensures.world c.stage-stage.ensures.vb c.commit_batch-flushed.ensures.stays.1 c.commit_batch-flushed.ensures.home
+    (bench_data c.args.bench.now) (bench_data (record { desk = c.commit_batch-flushed.new.desk; batch = Some c.in-Some.batch; reads = c.args.bench.now.reads })) c.commit_batch-flushed.new.desk c.in-Some.batch flushes.NoMemory is refl c.in-NoMemory.ensures.flushed c.in-NoMemory.ensures.rose in
     search rules

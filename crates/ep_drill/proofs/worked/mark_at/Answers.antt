@@ -1,10 +1,20 @@
-use Rattle.std.proofs.Common.{rules, subst}
+use Rattle.std.proofs.Common.{rules, refl, subst}
 use Rattle.ep_model.specs.declared.data.FrontData.{FrontData}
 use Rattle.vb_world.specs.World.{front_in, Sound}
 use Rattle.ep_drill.specs.Parts.{part_stands}
 use Rattle.ep_drill.specs.Core.{bench_data, BenchStands, Worked}
-use Rattle.ep_drill.proofs.StoredLemmas.{mark_worked, mark_bench}
+use Rattle.ep_drill.specs.Works.{WasMarked}
+use Rattle.ep_drill.proofs.StoredLemmas.{mark_marks, mark_worked, mark_bench}
 use Rattle.ep_drill.proofs.worked.mark_at.Goals as goal
+
+-- src/worked.rt
+pub returns-clause-ok : goal.returns-clause-ok
+returns-clause-ok c =
+    let m : WasMarked c.args.config.now c.args.vb c.args.stripe c.mark_once-marking.result c.args.world.now c.mark_once-marking.new.stage.world.now (bench_data c.args.bench.now) (bench_data c.args.bench.now) =
+    mark_marks c.args.config.now c.args.world.now c.reserve.new.self c.stage-stage.result.world.now c.mark_once-marking.new.stage.world.now c.args.vb c.stage-stage.result.vb c.mark_once-marking.new.stage.vb c.reserve.new.self.event_room c.reserve.new.self.byte_room
+    c.args.stripe c.args.bench.now.desk.noted c.mark_once-marking.result c.requires.ready c.requires.vb c.reserve.ensures.same c.stage-stage.ensures.world c.stage-stage.ensures.vb c.mark_once-marking.ensures.stays.1 c.mark_once-marking.ensures.home c.mark_once-marking.ensures.front
+    (bench_data c.args.bench.now) refl in
+    search rules
 
 -- src/worked.rt
 pub returns-clause-worked : goal.returns-clause-worked

@@ -1,11 +1,16 @@
 use Rattle.std.proofs.Common.{rules, ◌≡◌, Some, ℕ, slice_set, slice_get, sym, subst}
 use Rattle.ep_drill.specs.Core.{bench_data, core_data, Interleaves, GoesOn, BenchStands, Worked}
 use Rattle.vb_world.specs.World.{front_in}
+use Rattle.ep_drill.specs.declared.data.BenchData.{BenchData}
 use Rattle.ep_drill.specs.declared.data.CoreData.{CoreData}
+use Rattle.std.specs.Prelude.{IsSome}
+use Rattle.ep_drill.specs.Stepped.{IsNoBucket}
+use Rattle.ep_drill.specs.Works.{Commits}
 use Rattle.ep_drill.proofs.EngineLemmas.{lent_at, bench_of, benched_core}
+use Rattle.ep_drill.proofs.SteppedLemmas.{benched_ok, benched_err}
 use Rattle.ep_drill.proofs.engine.Core.commit.Goals as goal
 
--- src/engine.rt:104:15
+-- src/engine.rt
 pub commit_at-requires-clause-bench : goal.commit_at-requires-clause-bench
 commit_at-requires-clause-bench c =
     let i : Interleaves (core_data c.self.inside.config c.self.inside.world c.self.inside.benches.items c.self.inside.callers.items) = c.self.invariant.0 in
@@ -15,7 +20,7 @@ commit_at-requires-clause-bench c =
     subst (λ (k : ℕ). BenchStands (front_in c.self.inside.world k) (bench_data c.in-Some.bench.now)) same
     (bench_of c.self.inside.config c.self.inside.world c.self.inside.benches.items c.self.inside.callers.items c.from.result c.in-Some.bench.now i at).0
 
--- src/engine.rt:97:5
+-- src/engine.rt
 pub invariant_of-self-2 : goal.invariant_of-self-2
 invariant_of-self-2 c =
     let i : Interleaves (core_data c.self.inside.config c.self.inside.world c.self.inside.benches.items c.self.inside.callers.items) = c.self.invariant.0 in
@@ -26,7 +31,7 @@ invariant_of-self-2 c =
     (subst (λ (k : ℕ). Worked c.self.inside.config k c.self.inside.world c.commit_at.new.world) (sym same) c.commit_at.ensures.worked) c.commit_at.ensures.sound (subst (λ (k : ℕ). BenchStands (front_in c.commit_at.new.world k) (bench_data c.commit_at.new.bench)) (sym same) c.commit_at.ensures.bench) in
     (m.0, c.self.invariant.1)
 
--- src/engine.rt:97:5
+-- src/engine.rt
 pub returns-clause-interleaves : goal.returns-clause-interleaves
 returns-clause-interleaves c =
     let i : Interleaves (core_data c.self.inside.config c.self.inside.world c.self.inside.benches.items c.self.inside.callers.items) = c.self.invariant.0 in
@@ -37,7 +42,7 @@ returns-clause-interleaves c =
     (subst (λ (k : ℕ). Worked c.self.inside.config k c.self.inside.world c.commit_at.new.world) (sym same) c.commit_at.ensures.worked) c.commit_at.ensures.sound (subst (λ (k : ℕ). BenchStands (front_in c.commit_at.new.world k) (bench_data c.commit_at.new.bench)) (sym same) c.commit_at.ensures.bench) in
     m.0
 
--- src/engine.rt:97:5
+-- src/engine.rt
 pub returns-clause-goes_on : goal.returns-clause-goes_on
 returns-clause-goes_on c =
     let i : Interleaves (core_data c.self.inside.config c.self.inside.world c.self.inside.benches.items c.self.inside.callers.items) = c.self.invariant.0 in
@@ -47,3 +52,17 @@ returns-clause-goes_on c =
     let m = benched_core c.self.inside.config c.self.inside.world c.commit_at.new.world c.self.inside.benches.items c.self.inside.callers.items c.from.result c.in-Some.bench.now c.commit_at.new.bench i at
     (subst (λ (k : ℕ). Worked c.self.inside.config k c.self.inside.world c.commit_at.new.world) (sym same) c.commit_at.ensures.worked) c.commit_at.ensures.sound (subst (λ (k : ℕ). BenchStands (front_in c.commit_at.new.world k) (bench_data c.commit_at.new.bench)) (sym same) c.commit_at.ensures.bench) in
     subst (λ (s : CoreData). GoesOn s (core_data c.self.inside.config c.commit_at.new.world (slice_set c.self.inside.benches.items c.from.result c.commit_at.new.bench) c.self.inside.callers.items)) c.self.view_is m.1
+
+pub returns-clause-committed : goal.returns-clause-committed
+returns-clause-committed c =
+    let at : slice_get c.self.inside.benches.items c.from.result ≡ Some c.in-Some.bench.now =
+    lent_at c.self.inside.benches.items c.from.result c.in-Some.bench.now c.in-Some.ensures.item.3.0 c.in-Some.ensures.value in
+    benched_ok c.args.self.now c.self.inside.config c.self.inside.world c.commit_at.new.world c.self.inside.benches.items c.self.inside.callers.items c.from.result c.args.vb c.in-Some.bench.now c.self.view_is (search rules) at
+    c.commit_at.new.bench (λ o. IsNoBucket o c.args.vb) (λ k. Commits k c.args.vb) c.commit_at.result c.commit_at.ensures.ok
+
+pub returns-clause-err : goal.returns-clause-err
+returns-clause-err c =
+    let at : slice_get c.self.inside.benches.items c.from.result ≡ Some c.in-Some.bench.now =
+    lent_at c.self.inside.benches.items c.from.result c.in-Some.bench.now c.in-Some.ensures.item.3.0 c.in-Some.ensures.value in
+    benched_err c.args.self.now c.self.inside.config c.self.inside.world c.commit_at.new.world c.self.inside.benches.items c.self.inside.callers.items c.from.result c.args.vb c.in-Some.bench.now c.self.view_is (search rules) at
+    c.commit_at.new.bench (λ (b : BenchData). IsSome b.batch) c.commit_at.result c.commit_at.ensures.err

@@ -1,10 +1,11 @@
 use Rattle.std.proofs.Common.{rules, ◌≡◌, ◌<◌, length, slice_get, slice_set, Some, refl, sym, subst}
-use Rattle.std.specs.Prelude.{Result, IfOk}
+use Rattle.std.specs.Prelude.{Result, IfOk, OnErr}
 use Rattle.ep_model.specs.declared.memory.NoMemory.{NoMemory}
 use Rattle.ep_drill.specs.declared.choice.Answer.{Answer}
-use Rattle.ep_drill.specs.Core.{core_data, IsFronted}
+use Rattle.ep_drill.specs.Core.{core_data}
+use Rattle.ep_drill.specs.Stepped.{IsFronted, IsIdle, Spares}
 use Rattle.std.specs.Vec.{vec_len}
-use Rattle.ep_drill.proofs.TurnLemmas.{turned_at, fronted_at, caller_of, lent_at}
+use Rattle.ep_drill.proofs.TurnLemmas.{turned_at, fronted_at, front_spared, caller_of, lent_at}
 use Rattle.ep_drill.proofs.engine.Core.front.Goals as goal
 
 pub try_next-tried-requires-clause-stands : goal.try_next-tried-requires-clause-stands
@@ -65,3 +66,15 @@ returns-clause-fronted c =
     let f = fronted_at c.args.self.now o.config o.world t.new.world o.benches.items o.callers.items c.from.result c.from-2.result c.args.number c.args.now c.in-Some.caller.now t.new.caller t.new.value.bytes t.result
     c.self.view_is c.from.ensures c.from-2.ensures at t.ensures.ok in
     subst (λ (r : Result Answer NoMemory). IfOk r (IsFronted c.args.self.now (core_data o.config t.new.world o.benches.items (slice_set o.callers.items c.from.result t.new.caller)) c.args.number c.args.now)) (sym c.answer_of.ensures) f
+
+pub returns-clause-err : goal.returns-clause-err
+returns-clause-err c =
+    let o = c.self.inside in
+    let t = c.try_next-tried in
+    let count : vec_len o.callers ≡ length o.callers.items = search rules in
+    let within : c.from.result < vec_len o.callers = c.in-Some.ensures.variant.0 refl in
+    let at : slice_get o.callers.items c.from.result ≡ Some c.in-Some.caller.now = lent_at o.callers.items (vec_len o.callers) c.from.result c.in-Some.caller.now count within c.in-Some.ensures.value in
+    let s = front_spared c.args.self.now o.config o.world t.new.world o.benches.items o.callers.items c.from.result c.args.number c.args.now c.in-Some.caller.now t.new.caller t.result
+    c.self.view_is c.from.ensures at (search rules) t.ensures.err in
+    let last = core_data o.config t.new.world o.benches.items (slice_set o.callers.items c.from.result t.new.caller) in
+    subst (λ (r : Result Answer NoMemory). OnErr r (Spares c.args.self.now last × (IsIdle c.args.self.now c.args.number c.args.now → ⊥))) (sym c.answer_of.ensures) s

@@ -3,9 +3,12 @@ use Rattle.ep_drill.specs.Core.{bench_data, core_data, Interleaves, GoesOn, Benc
 use Rattle.vb_world.specs.World.{front_in}
 use Rattle.ep_drill.specs.declared.data.CoreData.{CoreData}
 use Rattle.ep_drill.proofs.EngineLemmas.{lent_at, bench_of, benched_still}
+use Rattle.ep_drill.specs.Stepped.{IsNowhere}
+use Rattle.ep_drill.specs.Works.{Fetches}
+use Rattle.ep_drill.proofs.SteppedLemmas.{benched_ok, read_err}
 use Rattle.ep_drill.proofs.engine.Core.read.Goals as goal
 
--- src/engine.rt:150:15
+-- src/engine.rt
 pub read_at-requires-clause-bench : goal.read_at-requires-clause-bench
 read_at-requires-clause-bench c =
     let i : Interleaves (core_data c.self.inside.config c.self.inside.world c.self.inside.benches.items c.self.inside.callers.items) = c.self.invariant.0 in
@@ -15,7 +18,7 @@ read_at-requires-clause-bench c =
     subst (λ (k : ℕ). BenchStands (front_in c.self.inside.world k) (bench_data c.in-Some.bench.now)) same
     (bench_of c.self.inside.config c.self.inside.world c.self.inside.benches.items c.self.inside.callers.items c.from.result c.in-Some.bench.now i at).0
 
--- src/engine.rt:140:5
+-- src/engine.rt
 pub invariant_of-self-2 : goal.invariant_of-self-2
 invariant_of-self-2 c =
     let i : Interleaves (core_data c.self.inside.config c.self.inside.world c.self.inside.benches.items c.self.inside.callers.items) = c.self.invariant.0 in
@@ -26,7 +29,7 @@ invariant_of-self-2 c =
     (subst (λ (k : ℕ). Moved c.self.inside.config k None c.self.inside.world c.read_at.new.world) (sym same) c.read_at.ensures.moved) c.read_at.ensures.sound (subst (λ (k : ℕ). BenchStands (front_in c.read_at.new.world k) (bench_data c.read_at.new.bench)) (sym same) c.read_at.ensures.bench) in
     (m.0, c.read_at.ensures.value)
 
--- src/engine.rt:140:5
+-- src/engine.rt
 pub returns-clause-interleaves : goal.returns-clause-interleaves
 returns-clause-interleaves c =
     let i : Interleaves (core_data c.self.inside.config c.self.inside.world c.self.inside.benches.items c.self.inside.callers.items) = c.self.invariant.0 in
@@ -37,7 +40,7 @@ returns-clause-interleaves c =
     (subst (λ (k : ℕ). Moved c.self.inside.config k None c.self.inside.world c.read_at.new.world) (sym same) c.read_at.ensures.moved) c.read_at.ensures.sound (subst (λ (k : ℕ). BenchStands (front_in c.read_at.new.world k) (bench_data c.read_at.new.bench)) (sym same) c.read_at.ensures.bench) in
     m.0
 
--- src/engine.rt:140:5
+-- src/engine.rt
 pub returns-clause-goes_on : goal.returns-clause-goes_on
 returns-clause-goes_on c =
     let i : Interleaves (core_data c.self.inside.config c.self.inside.world c.self.inside.benches.items c.self.inside.callers.items) = c.self.invariant.0 in
@@ -47,3 +50,17 @@ returns-clause-goes_on c =
     let m = benched_still c.self.inside.config c.self.inside.world c.read_at.new.world c.self.inside.benches.items c.self.inside.callers.items c.from.result c.in-Some.bench.now c.read_at.new.bench i at
     (subst (λ (k : ℕ). Moved c.self.inside.config k None c.self.inside.world c.read_at.new.world) (sym same) c.read_at.ensures.moved) c.read_at.ensures.sound (subst (λ (k : ℕ). BenchStands (front_in c.read_at.new.world k) (bench_data c.read_at.new.bench)) (sym same) c.read_at.ensures.bench) in
     subst (λ (s : CoreData). GoesOn s (core_data c.self.inside.config c.read_at.new.world (slice_set c.self.inside.benches.items c.from.result c.read_at.new.bench) c.self.inside.callers.items)) c.self.view_is m.1
+
+pub returns-clause-read : goal.returns-clause-read
+returns-clause-read c =
+    let at : slice_get c.self.inside.benches.items c.from.result ≡ Some c.in-Some.bench.now =
+    lent_at c.self.inside.benches.items c.from.result c.in-Some.bench.now c.in-Some.ensures.item.3.0 c.in-Some.ensures.value in
+    benched_ok c.args.self.now c.self.inside.config c.self.inside.world c.read_at.new.world c.self.inside.benches.items c.self.inside.callers.items c.from.result c.args.vb c.in-Some.bench.now c.self.view_is (search rules) at
+    c.read_at.new.bench (λ o. IsNowhere o c.args.vb c.args.stripe) (λ k. Fetches k c.args.vb c.args.stripe) c.read_at.result c.read_at.ensures.ok
+
+pub returns-clause-err : goal.returns-clause-err
+returns-clause-err c =
+    let at : slice_get c.self.inside.benches.items c.from.result ≡ Some c.in-Some.bench.now =
+    lent_at c.self.inside.benches.items c.from.result c.in-Some.bench.now c.in-Some.ensures.item.3.0 c.in-Some.ensures.value in
+    read_err c.args.self.now c.self.inside.config c.self.inside.world c.read_at.new.world c.self.inside.benches.items c.self.inside.callers.items c.from.result c.args.vb c.in-Some.bench.now c.self.view_is (search rules) at
+    c.read_at.new.bench c.args.stripe c.read_at.result c.read_at.ensures.err

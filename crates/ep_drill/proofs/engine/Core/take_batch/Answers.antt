@@ -3,9 +3,12 @@ use Rattle.ep_drill.specs.Core.{bench_data, core_data, Interleaves, GoesOn, Benc
 use Rattle.vb_world.specs.World.{front_in}
 use Rattle.ep_drill.specs.declared.data.CoreData.{CoreData}
 use Rattle.ep_drill.proofs.EngineLemmas.{lent_at, bench_of, benched_still}
+use Rattle.ep_drill.specs.Stepped.{IsNoBucket}
+use Rattle.ep_drill.specs.Works.{Takes}
+use Rattle.ep_drill.proofs.SteppedLemmas.{benched_at}
 use Rattle.ep_drill.proofs.engine.Core.take_batch.Goals as goal
 
--- src/engine.rt:90:15
+-- src/engine.rt
 pub take_at-requires-clause-bench : goal.take_at-requires-clause-bench
 take_at-requires-clause-bench c =
     let i : Interleaves (core_data c.self.inside.config c.self.inside.world c.self.inside.benches.items c.self.inside.callers.items) = c.self.invariant.0 in
@@ -15,7 +18,7 @@ take_at-requires-clause-bench c =
     subst (λ (k : ℕ). BenchStands (front_in c.self.inside.world k) (bench_data c.in-Some.bench.now)) same
     (bench_of c.self.inside.config c.self.inside.world c.self.inside.benches.items c.self.inside.callers.items c.from.result c.in-Some.bench.now i at).0
 
--- src/engine.rt:80:5
+-- src/engine.rt
 pub invariant_of-self-2 : goal.invariant_of-self-2
 invariant_of-self-2 c =
     let i : Interleaves (core_data c.self.inside.config c.self.inside.world c.self.inside.benches.items c.self.inside.callers.items) = c.self.invariant.0 in
@@ -26,7 +29,7 @@ invariant_of-self-2 c =
     (subst (λ (k : ℕ). Moved c.self.inside.config k None c.self.inside.world c.take_at.new.world) (sym same) c.take_at.ensures.moved) c.take_at.ensures.sound (subst (λ (k : ℕ). BenchStands (front_in c.take_at.new.world k) (bench_data c.take_at.new.bench)) (sym same) c.take_at.ensures.bench) in
     (m.0, c.self.invariant.1)
 
--- src/engine.rt:80:5
+-- src/engine.rt
 pub returns-clause-interleaves : goal.returns-clause-interleaves
 returns-clause-interleaves c =
     let i : Interleaves (core_data c.self.inside.config c.self.inside.world c.self.inside.benches.items c.self.inside.callers.items) = c.self.invariant.0 in
@@ -37,7 +40,7 @@ returns-clause-interleaves c =
     (subst (λ (k : ℕ). Moved c.self.inside.config k None c.self.inside.world c.take_at.new.world) (sym same) c.take_at.ensures.moved) c.take_at.ensures.sound (subst (λ (k : ℕ). BenchStands (front_in c.take_at.new.world k) (bench_data c.take_at.new.bench)) (sym same) c.take_at.ensures.bench) in
     m.0
 
--- src/engine.rt:80:5
+-- src/engine.rt
 pub returns-clause-goes_on : goal.returns-clause-goes_on
 returns-clause-goes_on c =
     let i : Interleaves (core_data c.self.inside.config c.self.inside.world c.self.inside.benches.items c.self.inside.callers.items) = c.self.invariant.0 in
@@ -47,3 +50,10 @@ returns-clause-goes_on c =
     let m = benched_still c.self.inside.config c.self.inside.world c.take_at.new.world c.self.inside.benches.items c.self.inside.callers.items c.from.result c.in-Some.bench.now c.take_at.new.bench i at
     (subst (λ (k : ℕ). Moved c.self.inside.config k None c.self.inside.world c.take_at.new.world) (sym same) c.take_at.ensures.moved) c.take_at.ensures.sound (subst (λ (k : ℕ). BenchStands (front_in c.take_at.new.world k) (bench_data c.take_at.new.bench)) (sym same) c.take_at.ensures.bench) in
     subst (λ (s : CoreData). GoesOn s (core_data c.self.inside.config c.take_at.new.world (slice_set c.self.inside.benches.items c.from.result c.take_at.new.bench) c.self.inside.callers.items)) c.self.view_is m.1
+
+pub returns-clause-taken : goal.returns-clause-taken
+returns-clause-taken c =
+    let at : slice_get c.self.inside.benches.items c.from.result ≡ Some c.in-Some.bench.now =
+    lent_at c.self.inside.benches.items c.from.result c.in-Some.bench.now c.in-Some.ensures.item.3.0 c.in-Some.ensures.value in
+    benched_at c.args.self.now c.self.inside.config c.self.inside.world c.take_at.new.world c.self.inside.benches.items c.self.inside.callers.items c.from.result c.args.vb c.in-Some.bench.now c.self.view_is (search rules) at
+    c.take_at.new.bench (λ o. IsNoBucket o c.args.vb) (λ k. Takes k c.args.vb) c.take_at.result c.take_at.ensures.taken

@@ -1,4 +1,4 @@
-use Rattle.ep_drill.proofs.stored.read_at.Given as goal
+use Rattle.ep_drill.proofs.stored.read_sure.Given as goal
 
 -- what the store holds
 abbrev pub ghost-fetch_read : goal.ghost-fetch_read

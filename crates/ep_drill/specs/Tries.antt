@@ -1,0 +1,49 @@
+-- What a call comes to, by the parts that it needs, and what it leaves of them.
+use Rattle.std.specs.Prelude.{◌≡◌, ℕ, List, Option, Some}
+use Rattle.ep_model.specs.declared.call.StoreKind.TheVariants.{Set as SetKind, Add as AddKind, Replace as ReplaceKind}
+use Rattle.ep_model.specs.declared.config.Config.{Config}
+use Rattle.ep_model.specs.declared.data.CallData.{CallData}
+use Rattle.ep_model.specs.declared.data.CallData.TheVariants as calls
+use Rattle.ep_model.specs.declared.event.PartName.{PartName}
+use Rattle.ep_model.specs.declared.event.PartName.TheVariants.{Stripe, Queue}
+use Rattle.ep_model.specs.declared.event.Ticket.{Ticket}
+use Rattle.ep_model.specs.Config.{fit_of}
+use Rattle.ep_model.specs.Stripes.{stripe_of}
+use Rattle.ep_drill.specs.declared.flat.data.QueueData.{QueueData}
+use Rattle.ep_drill.specs.declared.flat.data.Step.{Step}
+use Rattle.ep_drill.specs.declared.flat.data.StripeData.{StripeData}
+use Rattle.ep_drill.specs.declared.part.Part.{Part}
+use Rattle.ep_drill.specs.declared.part.Part.TheVariants as parts
+use Rattle.ep_drill.specs.Steps.{read_step, write_step}
+
+-- a Get, by its key's stripe
+pub record Gets (stripes : ℕ) (old new : PartName → Option Part) (prior : Option Ticket) (key : List ℕ) (now : ℕ) (step : Step) : Type 0 where
+  pub stripe : StripeData
+  pub before : old (Stripe (stripe_of key stripes)) ≡ Some (parts.Stripe stripe)
+  pub comes : step ≡ (read_step stripe prior key now).step
+  pub behind : new (Stripe (stripe_of key stripes)) ≡ Some (parts.Stripe (read_step stripe prior key now).stripe)
+
+-- a Set, by its key's stripe and the queue
+pub record Sets (stripes fit : ℕ) (old new : PartName → Option Part) (prior : Option Ticket) (key value : List ℕ) (flags expiration cas now : ℕ) (step : Step) : Type 0 where
+  pub stripe : StripeData
+  pub queue : QueueData
+  pub before : old (Stripe (stripe_of key stripes)) ≡ Some (parts.Stripe stripe)
+  pub queued : old Queue ≡ Some (parts.Queue queue)
+  pub comes : step ≡ (write_step stripe queue fit prior key value flags expiration cas now).step
+  pub behind : new (Stripe (stripe_of key stripes)) ≡ Some (parts.Stripe (write_step stripe queue fit prior key value flags expiration cas now).stripe)
+  pub queues : new Queue ≡ Some (parts.Queue (write_step stripe queue fit prior key value flags expiration cas now).queue)
+
+-- each of the calls that there are so far
+abbrev pub ComesTo : Config → (PartName → Option Part) → (PartName → Option Part) → CallData → ℕ → Option Ticket → Step → Type 0
+ComesTo config old new (calls.Get key) now prior step = Gets config.stripes old new prior key now step
+ComesTo config old new (calls.Store SetKind key value flags expiration cas) now prior step = Sets config.stripes (fit_of config) old new prior key value flags expiration cas now step
+ComesTo config old new (calls.Store AddKind key value flags expiration cas) now prior step = ⊥
+ComesTo config old new (calls.Store ReplaceKind key value flags expiration cas) now prior step = ⊥
+ComesTo config old new (calls.Join front key value cas) now prior step = ⊥
+ComesTo config old new (calls.Count down key delta initial expiration cas) now prior step = ⊥
+ComesTo config old new (calls.Delete key cas) now prior step = ⊥
+ComesTo config old new (calls.Touch key expiration fetch) now prior step = ⊥
+ComesTo config old new (calls.Observe uuid) now prior step = ⊥
+ComesTo config old new calls.Failovers now prior step = ⊥
+ComesTo config old new (calls.SetState state) now prior step = ⊥
+ComesTo config old new calls.GetState now prior step = ⊥
