@@ -30,14 +30,14 @@ use Rattle.hold_stage.proofs.Views.{or_true_left}
 use Rattle.hold_stage.proofs.Later.{world_step, all_append}
 use Rattle.hold_stage.proofs.Legality.{all_front}
 use Rattle.hold_stage.proofs.Bounds.{not_asked, fresh_unused, waiting_step}
-use Rattle.ep_drill.specs.declared.flat.data.NodeData.{NodeData}
-use Rattle.ep_drill.specs.declared.flat.data.Outcome.{Outcome}
-use Rattle.ep_drill.specs.declared.flat.data.Outcome.TheVariants as outcomes
-use Rattle.ep_drill.specs.declared.flat.data.PlaceData.{PlaceData}
-use Rattle.ep_drill.specs.declared.flat.data.StripeData.{StripeData}
-use Rattle.ep_drill.specs.declared.flat.data.Step.TheVariants as steps
-use Rattle.ep_drill.specs.Nodes.{doc_of, node_at, outcome_at, is_not_numbered, released}
-use Rattle.ep_drill.specs.Steps.{read_refused, is_full, asked, read_asks, prior_outcome, read_waits, read_value, read_node, read_active, read_step}
+use Rattle.flat_parts.specs.declared.data.NodeData.{NodeData}
+use Rattle.flat_parts.specs.declared.data.Outcome.{Outcome}
+use Rattle.flat_parts.specs.declared.data.Outcome.TheVariants as outcomes
+use Rattle.flat_parts.specs.declared.data.PlaceData.{PlaceData}
+use Rattle.flat_parts.specs.declared.data.StripeData.{StripeData}
+use Rattle.flat_parts.specs.declared.data.Step.TheVariants as steps
+use Rattle.flat_parts.specs.Nodes.{doc_of, node_at, outcome_at, is_not_numbered, released}
+use Rattle.flat_parts.specs.Steps.{read_refused, is_full, asked, read_asks, prior_outcome, read_waits, read_value, read_node, read_active, read_step}
 use Rattle.ep_drill.specs.Stands.{ValueStands, IsGone, IsNoRead, OutcomeStands, ticket_of, PlaceStands, StripeStands, PriorStands, PriorsStand}
 use Rattle.ep_drill.proofs.ReadLemmas.{AfterRead, all_filter, all_map, IsCalm, places_calm, stripe_calm, released_all, after_done, after_warming}
 

@@ -24,9 +24,9 @@ use Rattle.ep_drill.specs.declared.fetch.Merging.{Merging}
 use Rattle.ep_drill.specs.declared.fetch.Merging.TheVariants as mergings
 use Rattle.ep_drill.specs.declared.store.Flushed.{Flushed}
 use Rattle.ep_drill.specs.declared.store.Flushed.TheVariants as flushes
-use Rattle.ep_drill.specs.declared.flat.data.FetchedData.{FetchedData}
-use Rattle.ep_drill.specs.declared.flat.data.FoundData.{FoundData}
-use Rattle.ep_drill.specs.declared.flat.data.FoundData.TheVariants as founds
+use Rattle.ep_drill.specs.declared.data.FetchedData.{FetchedData}
+use Rattle.ep_drill.specs.declared.data.FoundData.{FoundData}
+use Rattle.ep_drill.specs.declared.data.FoundData.TheVariants as founds
 use Rattle.ep_drill.specs.Calls.{noted}
 use Rattle.ep_drill.specs.Answers.{DeskKnown, IsFlushed}
 use Rattle.ep_drill.specs.Fetches.{IsCounted, DeskRead, IsMerged}

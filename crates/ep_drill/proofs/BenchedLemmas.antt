@@ -1,14 +1,15 @@
 -- What the work at a stage of one vBucket is to the world and to the bench.
 use Rattle.std.proofs.Common.{◌≡◌, ◌<◌, ℕ, zero, suc, Bool, true, inl, inr, List, [], ◌∷◌, length, map, slice_get, slice_set, slice_index_or, refl, sym, ap, subst, ◌∙◌, arith}
-use Rattle.std.specs.Prelude.{Option, Some, None, IfSome, is_some, Result, Ok, Err, OkIff}
+use Rattle.std.specs.Prelude.{Option, Some, None, IfSome, is_some, ◌||◌, Result, Ok, Err, OkIff}
 use Rattle.std.specs.Option.{option_map}
+use Rattle.std.proofs.lemmas.List.{map-set}
 use Rattle.std.specs.Result.{result_unwrap_or}
 use Rattle.std.proofs.lemmas.Bool.{cases_eq}
 use Rattle.ep_model.specs.declared.config.Config.{Config}
 use Rattle.ep_model.specs.declared.data.FrontData.{FrontData}
 use Rattle.ep_model.specs.declared.event.PartName.{PartName}
 use Rattle.ep_model.specs.declared.event.PartName.TheVariants.{Stripe}
-use Rattle.hold_stage.specs.Touches.{there}
+use Rattle.hold_stage.specs.Touches.{there, is_stripe, is_queue, is_desk}
 use Rattle.kv_keeper.specs.declared.data.BatchData.{BatchData}
 use Rattle.kv_keeper.specs.declared.data.DeskData.{DeskData}
 use Rattle.kv_keeper.specs.Kept.{Rose}
@@ -19,17 +20,17 @@ use Rattle.vb_world.specs.World.{front_in, part_in, fixed_in}
 use Rattle.ep_drill.specs.declared.data.BenchData.{BenchData}
 use Rattle.ep_drill.specs.declared.fetch.Merging.{Merging}
 use Rattle.ep_drill.specs.declared.fetched.Fetched.{Fetched}
-use Rattle.ep_drill.specs.declared.flat.data.FetchedData.{FetchedData}
+use Rattle.ep_drill.specs.declared.data.FetchedData.{FetchedData}
 use Rattle.ep_drill.specs.declared.part.Part.{Part}
 use Rattle.ep_drill.specs.declared.store.Flushed.{Flushed}
 use Rattle.ep_drill.specs.Answers.{IsTaken, IsFlushed, OnFailed}
-use Rattle.ep_drill.specs.Calls.{AreHome}
+use Rattle.ep_drill.specs.Calls.{AreHome, KeptBut}
 use Rattle.ep_drill.specs.Fetches.{fetched_data, found_data, DeskRead, IsMerged, IsRead, OnFault, ReadsOldest}
 use Rattle.ep_drill.specs.Core.{BenchStands, Ready, Moved, Rested, count_of}
 use Rattle.ep_drill.specs.Works.{WasTaken, WasDropped, WasFlushed, WasFetched, WasMerged, batch_after, reads_after}
-use Rattle.ep_drill.proofs.MergedLemmas.{set_mapped, get_mapped, flushed_moved, merged_moved}
+use Rattle.ep_drill.proofs.MergedLemmas.{get_mapped, flushed_moved, merged_moved}
 use Rattle.ep_drill.proofs.Lists.{set_same}
-use Rattle.ep_drill.proofs.WorkedLemmas.{moved_still}
+use Rattle.ep_drill.proofs.WorkedLemmas.{moved_still, layout_with_room, kept_at}
 use Rattle.ep_drill.proofs.WorldLemmas.{parts_kept}
 
 -- the number of a batch's documents as it is answered
@@ -53,7 +54,7 @@ module _ {A : Type 0} where
 
 -- what was taken out is put back
 pub put_again : {A B : Type 0} (g : A → B) (xs ys : List A) (n : ℕ) (x y : A) → ys ≡ slice_set (slice_set xs n x) n y → slice_get (map g xs) n ≡ Some (g y) → map g ys ≡ map g xs
-put_again {A = A} g xs ys n x y is here = ap (λ (l : List A). map g l) (is ∙ set_again xs n x y) ∙ set_mapped g xs n y ∙ set_same (map g xs) n (g y) here
+put_again {A = A} g xs ys n x y is here = ap (λ (l : List A). map g l) (is ∙ set_again xs n x y) ∙ map-set g xs n y ∙ set_same (map g xs) n (g y) here
 
 -- a read is there or not
 pub is_there : (stripe : ℕ) (reads : List (Option FetchedData)) (fetched : FetchedData) → slice_get reads stripe ≡ Some (Some fetched) → slice_get reads stripe ≡ Some None → ⊥
@@ -79,14 +80,18 @@ module _ (config : Config) (a s z : WorldData Part) (vb sv zv : ℕ) (ready : Re
   here_part : (p : PartName) → part_in s sv p ≡ part_in a vb p
   here_part p = ap (λ (k : ℕ). part_in s k p) at ∙ ap (λ (k : WorldData Part). part_in k vb p) w
 
-  -- Where also the parts that there are are as they were, nothing happened.
-  pub rested_still : ((p : PartName) → there (front_in s sv).config p ≡ true → part_in z zv p ≡ part_in s sv p) → Rested config a z
-  rested_still parts =
+  -- The parts are as they were where those that there are were told as before.
+  all_still : ((p : PartName) → there (front_in s sv).config p ≡ true → part_in z zv p ≡ part_in s sv p) → (p : PartName) → part_in z vb p ≡ part_in a vb p
+  all_still parts =
       let v : zv ≡ vb = ap (λ (k : FixedData Part). k.vb) fixed ∙ at in
       let begun : s.config ≡ config = ap (λ (k : WorldData Part). k.config) w ∙ ready.layout in
       let told : (p : PartName) → there a.config p ≡ true → part_in z vb p ≡ part_in a vb p =
       λ p is. ap (λ (k : ℕ). part_in z k p) (sym v) ∙ parts p (ap (λ (k : Config). there k p) (begun ∙ sym ready.layout) ∙ is) ∙ here_part p in
-      let all : (p : PartName) → part_in z vb p ≡ part_in a vb p = parts_kept a z vb (here_moved.ready.layout ∙ sym ready.layout) told in
+      parts_kept a z vb (here_moved.ready.layout ∙ sym ready.layout) told
+
+  -- Then nothing happened.
+  pub rested_still : ((p : PartName) → there (front_in s sv).config p ≡ true → part_in z zv p ≡ part_in s sv p) → Rested config a z
+  rested_still parts =
       record {
         ready = here_moved.ready;
         fronts = λ u. elim (cases_eq u vb) as (λ _. front_in z u ≡ front_in a u) [
@@ -94,12 +99,12 @@ module _ (config : Config) (a s z : WorldData Part) (vb sv zv : ℕ) (ready : Re
           | inr differ ↦ here_moved.others u differ
         ];
         parts = λ u p. elim (cases_eq u vb) as (λ _. part_in z u p ≡ part_in a u p) [
-          | inl is ↦ subst (λ (k : ℕ). part_in z k p ≡ part_in a k p) (sym is) (all p)
+          | inl is ↦ subst (λ (k : ℕ). part_in z k p ≡ part_in a k p) (sym is) (all_still parts p)
           | inr differ ↦ here_moved.apart u differ p
         ];
       }
 
-  module _ (bench after : BenchData) (sure : bench.desk.doubt ≡ None) where
+  module _ (bench after : BenchData) (sure : bench.desk.doubt ≡ None) (parts : (p : PartName) → there (front_in s sv).config p ≡ true → part_in z zv p ≡ part_in s sv p) where
     -- a batch was taken, or none is needed
     pub was_taken : (number : ℕ) (taken batch : Option BatchData) → taken ≡ batch → IsTaken (front_in s sv) bench.desk.stored taken → number ≡ count_of batch → after ≡ record bench { batch = batch } → WasTaken config vb number a z bench after
     was_taken number taken batch same stands count left =
@@ -109,13 +114,14 @@ module _ (config : Config) (a s z : WorldData Part) (vb sv zv : ℕ) (ready : Re
           batch = batch;
           left = left;
           moved = here_moved;
+          kept = all_still parts;
           taken = subst (λ (f : FrontData). IsTaken f bench.desk.stored batch) here_front here;
           count = count;
         }
 
     -- or memory was wanting for one
     pub was_dropped : after ≡ record bench { batch = None } → WasDropped config vb a z bench after
-    was_dropped left = record { sure = sure; left = left; moved = here_moved }
+    was_dropped left = record { sure = sure; left = left; moved = here_moved; kept = all_still parts }
 
     -- The store was read for whoever waits first, or nobody does.
     pub was_fetched : (stripe : ℕ) (waited : Bool) (now : DeskData MemoryData) (shown read : Option Fetched) → shown ≡ read → waited ≡ is_some read → ReadsOldest (part_in s sv (Stripe stripe)) shown
@@ -130,6 +136,7 @@ module _ (config : Config) (a s z : WorldData Part) (vb sv zv : ℕ) (ready : Re
           oldest = subst (λ (o : Option Part). ReadsOldest o read) (here_part (Stripe stripe)) (subst (λ (o : Option Fetched). ReadsOldest (part_in s sv (Stripe stripe)) o) same oldest);
           left = left;
           moved = here_moved;
+          kept = all_still parts;
           store = store;
           stands = subst (λ (f : FrontData). IsRead f stripe bench.desk.read_faults now.read_faults read) here_front
               (subst (λ (o : Option Fetched). IsRead (front_in s sv) stripe bench.desk.read_faults now.read_faults o) same stands);
@@ -150,8 +157,9 @@ module _ (config : Config) (a r s z : WorldData Part) (vb sv zv n m : ℕ) (read
 
   -- a commit went so
   pub was_flushed : (bench after : BenchData) (now : DeskData MemoryData) (batch : BatchData) (flushed : Flushed) → bench.batch ≡ Some batch → after ≡ record bench { desk = now; batch = batch_after batch flushed }
-      → IsFlushed (front_in s sv) (front_in z zv) (Some now.keeper.content) bench.desk now batch flushed → OnFailed flushed (Rose bench.desk.keeper.faults now.keeper.faults) → WasFlushed config vb flushed a z bench after
-  was_flushed bench after now batch flushed taken left done rose =
+      → IsFlushed (front_in s sv) (front_in z zv) (Some now.keeper.content) bench.desk now batch flushed → OnFailed flushed (Rose bench.desk.keeper.faults now.keeper.faults)
+      → KeptBut (front_in s sv).config (λ p. is_queue p || is_desk p) (part_in s sv) (part_in z zv) → WasFlushed config vb flushed a z bench after
+  was_flushed bench after now batch flushed taken left done rose kept =
       let from : IsFlushed (front_in a vb) (front_in z zv) (Some now.keeper.content) bench.desk now batch flushed = subst (λ (f : FrontData). IsFlushed f (front_in z zv) (Some now.keeper.content) bench.desk now batch flushed) old_front done in
       record {
         batch = batch;
@@ -159,14 +167,16 @@ module _ (config : Config) (a r s z : WorldData Part) (vb sv zv n m : ℕ) (read
         taken = taken;
         left = left;
         moved = flushed_moved a r s z vb sv zv n m config (Some now.keeper.content) bench.desk now batch flushed ready within room w at fixed home done;
+        kept = kept_at config a s z vb sv zv (layout_with_room config a r s n m ready.layout room w) old_part at fixed (λ k p. is_queue p || is_desk p) kept;
         done = subst (λ (k : ℕ). IsFlushed (front_in a vb) (front_in z k) (Some now.keeper.content) bench.desk now batch flushed) at_end from;
         rose = rose;
       }
 
   -- a merge went so
   pub was_merged : (bench after : BenchData) (stripe : ℕ) (fetched : FetchedData) (merging : Merging) → BenchStands (front_in a vb) bench → slice_get bench.reads stripe ≡ Some (Some fetched) → after ≡ record bench { reads = slice_set bench.reads stripe None }
-      → IsMerged (front_in s sv) (front_in z zv) (part_in s sv (Stripe fetched.ticket.stripe)) (part_in z zv (Stripe fetched.ticket.stripe)) fetched merging → WasMerged config vb stripe merging a z bench after
-  was_merged bench after stripe fetched merging b read left done =
+      → IsMerged (front_in s sv) (front_in z zv) (part_in s sv (Stripe fetched.ticket.stripe)) (part_in z zv (Stripe fetched.ticket.stripe)) fetched merging
+      → KeptBut (front_in s sv).config (is_stripe fetched.ticket.stripe) (part_in s sv) (part_in z zv) → WasMerged config vb stripe merging a z bench after
+  was_merged bench after stripe fetched merging b read left done kept =
       let p : PartName = Stripe fetched.ticket.stripe in
       let from : IsMerged (front_in a vb) (front_in z zv) (part_in s sv p) (part_in z zv p) fetched merging = subst (λ (f : FrontData). IsMerged f (front_in z zv) (part_in s sv p) (part_in z zv p) fetched merging) old_front done in
       let with : IsMerged (front_in a vb) (front_in z zv) (part_in a vb p) (part_in z zv p) fetched merging = subst (λ (o : Option Part). IsMerged (front_in a vb) (front_in z zv) o (part_in z zv p) fetched merging) (old_part p) from in
@@ -175,6 +185,8 @@ module _ (config : Config) (a r s z : WorldData Part) (vb sv zv n m : ℕ) (read
         read = read;
         here = (b.reads stripe fetched read).1;
         left = left;
+        kept = subst (λ (k : ℕ). KeptBut config (is_stripe k) (part_in a vb) (part_in z vb)) (b.reads stripe fetched read).1
+            (kept_at config a s z vb sv zv (layout_with_room config a r s n m ready.layout room w) old_part at fixed (λ k. is_stripe fetched.ticket.stripe) kept);
         moved = merged_moved a r s z vb sv zv n m config (part_in s sv p) (part_in z zv p) fetched merging ready within room w at fixed home done;
         done = subst (λ (k : ℕ). IsMerged (front_in a vb) (front_in z k) (part_in a vb p) (part_in z k p) fetched merging) at_end with;
       }

@@ -18,7 +18,7 @@ use Rattle.kv_keeper.specs.Desk.{new_desk}
 use Rattle.kv_keeper.specs.Memory.{MemoryData}
 use Rattle.ep_drill.specs.declared.data.BenchData.{BenchData}
 use Rattle.ep_drill.specs.declared.fetched.Fetched.{Fetched}
-use Rattle.ep_drill.specs.declared.flat.data.FetchedData.{FetchedData}
+use Rattle.ep_drill.specs.declared.data.FetchedData.{FetchedData}
 use Rattle.ep_drill.specs.Fetches.{fetched_data}
 use Rattle.ep_drill.specs.Opens.{copies, idle, reads_in, bench_over, AreFresh, FirstOpened}
 

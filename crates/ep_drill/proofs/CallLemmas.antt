@@ -20,11 +20,11 @@ use Rattle.ep_model.specs.Legal.{May, IsLegal}
 use Rattle.hold_stage.specs.Touches.{is_stripe, touches_call, touches, is_of, is_call, is_desks}
 use Rattle.hold_stage.specs.Grows.{Same, and_this, Covered, IsOwn}
 use Rattle.hold_stage.proofs.Callers.{same_is}
-use Rattle.ep_drill.specs.declared.flat.data.StripeData.{StripeData}
-use Rattle.ep_drill.specs.declared.flat.data.QueueData.{QueueData}
-use Rattle.ep_drill.specs.declared.flat.data.Step.{Step}
-use Rattle.ep_drill.specs.declared.flat.data.Step.TheVariants as steps
-use Rattle.ep_drill.specs.Steps.{read_step, write_step}
+use Rattle.flat_parts.specs.declared.data.StripeData.{StripeData}
+use Rattle.flat_parts.specs.declared.data.QueueData.{QueueData}
+use Rattle.flat_parts.specs.declared.data.Step.{Step}
+use Rattle.flat_parts.specs.declared.data.Step.TheVariants as steps
+use Rattle.flat_parts.specs.Steps.{read_step, write_step}
 use Rattle.ep_drill.specs.Stands.{ticket_of, StripeStands, QueueStands, PriorsStand}
 use Rattle.ep_drill.specs.Calls.{is_prior, event_of, noted}
 use Rattle.ep_drill.proofs.ReadLemmas.{AfterStep}

@@ -15,8 +15,8 @@ use Rattle.hold_stage.specs.Touches.{is_call}
 use Rattle.hold_stage.proofs.Callers.{same_is}
 use Rattle.vb_world.proofs.Lists.{all-push, get_push}
 use Rattle.ep_drill.specs.declared.data.CallerData.{CallerData}
-use Rattle.ep_drill.specs.declared.flat.data.Step.{Step}
-use Rattle.ep_drill.specs.declared.flat.data.Step.TheVariants as steps
+use Rattle.flat_parts.specs.declared.data.Step.{Step}
+use Rattle.flat_parts.specs.declared.data.Step.TheVariants as steps
 use Rattle.ep_drill.specs.Stands.{PriorStands, PriorsStand}
 use Rattle.ep_drill.specs.Calls.{is_prior, event_of, noted}
 use Rattle.ep_drill.specs.Callers.{answered_by, answered_in, calls_on, next_of, NextStands, CallerStands, after_step}

@@ -27,9 +27,9 @@ use Rattle.ep_drill.specs.declared.part.Part.{Part}
 use Rattle.ep_drill.specs.declared.data.BenchData.{BenchData}
 use Rattle.ep_drill.specs.declared.data.CallerData.{CallerData}
 use Rattle.ep_drill.specs.declared.data.CoreData.{CoreData}
-use Rattle.ep_drill.specs.declared.flat.data.FetchedData.{FetchedData}
-use Rattle.ep_drill.specs.declared.flat.data.Step.{Step}
-use Rattle.ep_drill.specs.declared.flat.data.Step.TheVariants as steps
+use Rattle.ep_drill.specs.declared.data.FetchedData.{FetchedData}
+use Rattle.flat_parts.specs.declared.data.Step.{Step}
+use Rattle.flat_parts.specs.declared.data.Step.TheVariants as steps
 use Rattle.ep_drill.specs.Parts.{part_stands}
 use Rattle.ep_drill.specs.Calls.{is_prior, event_of, noted}
 use Rattle.ep_drill.specs.Stands.{PriorsStand}

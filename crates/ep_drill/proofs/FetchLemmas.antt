@@ -24,19 +24,20 @@ use Rattle.hold_stage.specs.Grows.{Same, and_this, Covered, IsOwn}
 use Rattle.hold_stage.specs.Mutations.{is_waiting}
 use Rattle.hold_stage.proofs.Later.{world_step}
 use Rattle.kv_keeper.specs.Content.{Content}
-use Rattle.ep_drill.specs.declared.flat.data.NodeData.{NodeData}
-use Rattle.ep_drill.specs.declared.flat.data.Outcome.{Outcome}
-use Rattle.ep_drill.specs.declared.flat.data.Outcome.TheVariants as outcomes
-use Rattle.ep_drill.specs.declared.flat.data.PlaceData.{PlaceData}
-use Rattle.ep_drill.specs.declared.flat.data.StripeData.{StripeData}
-use Rattle.ep_drill.specs.declared.flat.data.FetchedData.{FetchedData}
-use Rattle.ep_drill.specs.declared.flat.data.FoundData.{FoundData}
-use Rattle.ep_drill.specs.declared.flat.data.FoundData.TheVariants as founds
+use Rattle.flat_parts.specs.declared.data.NodeData.{NodeData}
+use Rattle.flat_parts.specs.declared.data.Outcome.{Outcome}
+use Rattle.flat_parts.specs.declared.data.Outcome.TheVariants as outcomes
+use Rattle.flat_parts.specs.declared.data.PlaceData.{PlaceData}
+use Rattle.flat_parts.specs.declared.data.StripeData.{StripeData}
+use Rattle.ep_drill.specs.declared.data.FetchedData.{FetchedData}
+use Rattle.ep_drill.specs.declared.data.FoundData.{FoundData}
+use Rattle.ep_drill.specs.declared.data.FoundData.TheVariants as founds
 use Rattle.ep_drill.specs.declared.part.Part.{Part}
 use Rattle.ep_drill.specs.declared.part.Part.TheVariants as parts
-use Rattle.ep_drill.specs.Nodes.{meta_of, doc_of, node_of, node_at, outcome_at, settled, is_waiting_outcome, first_waiting}
+use Rattle.flat_parts.specs.Nodes.{meta_of, doc_of, node_of, node_at, outcome_at, settled, is_waiting_outcome, first_waiting}
 use Rattle.ep_drill.specs.Stands.{IsGone, OutcomeStands, ticket_of, PlaceStands, StripeStands, IsFaultWithin, DeskStands, FoundStands, FetchedStands}
-use Rattle.ep_drill.specs.Fetches.{settles, IsOldest, IsFoundIn, IsCounted, IsBack, HasPlace, HasOutcome, HasValue}
+use Rattle.ep_drill.specs.Parts.{Becomes}
+use Rattle.ep_drill.specs.Fetches.{settles, put_back_value, put_back_node, put_back_found, IsOldest, IsFoundIn, IsCounted, IsBack, HasPlace, HasOutcome, HasValue}
 use Rattle.ep_drill.proofs.AskLemmas.{place_at, ticket_is}
 use Rattle.ep_drill.proofs.WaitLemmas.{waiting_low}
 use Rattle.ep_drill.proofs.StoreLemmas.{waiting_stored, fetched_key, fetched_any, fetched_row}
@@ -271,6 +272,10 @@ module _ (f₀ f : FrontData) (ticket : Ticket) (telling : Bool) (tells new : Pa
   pub part_outcome : (outcome_at x.places ticket.number ≡ None → ⊥) → HasOutcome (new (Stripe ticket.stripe)) ticket outcome
   part_outcome has = subst (λ (o : Option Part). HasOutcome o ticket outcome) (sym told_here) (settled_at x.places ticket.number outcome has)
 
+  -- and the stripe is another at this alone
+  pub part_becomes : (part : Option Part) → part ≡ Some (parts.Stripe x) → Becomes part (new (Stripe ticket.stripe)) (λ y. settles y ticket.number outcome)
+  part_becomes part is = subst (λ (o : Option Part). Becomes o (new (Stripe ticket.stripe)) (λ y. settles y ticket.number outcome)) (sym is) told_here
+
   part_value : (key : List ℕ) (node : NodeData) → node_at x.nodes key ≡ Some node → (node.value ≡ None → ⊥) → HasValue (new (Stripe ticket.stripe)) key
   part_value key node at has = subst (λ (o : Option Part). HasValue o key) (sym told_here) (node, at, has)
 
@@ -295,3 +300,24 @@ module _ (f₀ f : FrontData) (ticket : Ticket) (telling : Bool) (tells new : Pa
           (ap (λ (z : StripeData). node_at z.nodes key) away.2 ∙ node_at_put old.nodes (node_of key (doc_of meta value)) key ∙ ap (λ b. cond b (Some (node_of key (doc_of meta value))) (node_at old.nodes key)) ((bytes_eq-Decides key key).1 refl))
           (λ e. cc)
     ]
+
+    -- a value that is in memory stays
+    still : (o : Option (List ℕ)) → (o ≡ None → ⊥) → old ≡ put_back_value old key (doc_of meta value) o
+    still None has = absurd (has refl)
+    still (Some kept) has = refl
+
+    put_back_is : x ≡ put_back_node old key (doc_of meta value) (node_at old.nodes key)
+    put_back_is =
+        let at-node : x ≡ put_back_node old key (doc_of meta value) (Some back_is.0) = elim back_is.2 [
+          | inl stays ↦ stays.1 ∙ still back_is.0.value stays.0
+          | inr away ↦ away.2 ∙ ap (λ (o : Option (List ℕ)). put_back_value old key (doc_of meta value) o) (sym away.0)
+        ] in
+        at-node ∙ ap (λ (o : Option NodeData). put_back_node old key (doc_of meta value) o) (sym back_is.1)
+
+    -- the stripe is another at the value and the place alone
+    pub back_becomes : (part : Option Part) (found : FoundData) → part ≡ Some (parts.Stripe old) → found ≡ founds.Row (doc_of meta value)
+        → Becomes part (new (Stripe ticket.stripe)) (λ y. settles (put_back_found y key found) ticket.number outcome)
+    back_becomes part found is row =
+        let told-so : new (Stripe ticket.stripe) ≡ Some (parts.Stripe (settles (put_back_found old key found) ticket.number outcome)) =
+        told_here ∙ ap (λ (z : StripeData). Some (parts.Stripe (settles z ticket.number outcome))) (put_back_is ∙ ap (λ (k : FoundData). put_back_found old key k) (sym row)) in
+        subst (λ (o : Option Part). Becomes o (new (Stripe ticket.stripe)) (λ y. settles (put_back_found y key found) ticket.number outcome)) (sym is) told-so

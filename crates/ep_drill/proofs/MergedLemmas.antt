@@ -24,9 +24,9 @@ use Rattle.ep_drill.specs.declared.fetch.Merging.TheVariants as mergings
 use Rattle.ep_drill.specs.declared.fetched.Fetched.{Fetched}
 use Rattle.ep_drill.specs.declared.store.Flushed.{Flushed}
 use Rattle.ep_drill.specs.declared.store.Flushed.TheVariants as flushes
-use Rattle.ep_drill.specs.declared.flat.data.FetchedData.{FetchedData}
-use Rattle.ep_drill.specs.declared.flat.data.FoundData.{FoundData}
-use Rattle.ep_drill.specs.declared.flat.data.FoundData.TheVariants as founds
+use Rattle.ep_drill.specs.declared.data.FetchedData.{FetchedData}
+use Rattle.ep_drill.specs.declared.data.FoundData.{FoundData}
+use Rattle.ep_drill.specs.declared.data.FoundData.TheVariants as founds
 use Rattle.ep_drill.specs.Parts.{part_stands}
 use Rattle.ep_drill.specs.Calls.{AreHome}
 use Rattle.ep_drill.specs.Answers.{IsFlushed}
@@ -36,12 +36,6 @@ use Rattle.ep_drill.specs.Core.{BenchStands, Ready, Moved, Worked}
 use Rattle.ep_drill.specs.Works.{persisted_by, failure_of, failed_by}
 use Rattle.ep_drill.proofs.BenchLemmas.{bench_committed, bench_kept, bench_merged}
 use Rattle.ep_drill.proofs.WorkedLemmas.{moved_with_room, worked_by}
-
--- what is put at an index of a list that is mapped
-pub set_mapped : {A B : Type 0} (g : A → B) (xs : List A) (n : ℕ) (x : A) → map g (slice_set xs n x) ≡ slice_set (map g xs) n (g x)
-set_mapped g [] n x = refl
-set_mapped g (y ∷ xs) zero x = refl
-set_mapped g (y ∷ xs) (suc n) x = ap (λ l. g y ∷ l) (set_mapped g xs n x)
 
 -- what stands at an index of a list that is mapped
 pub get_mapped : {A B : Type 0} (g : A → B) (xs : List A) (n : ℕ) (d x : A) → n < length (map g xs) → slice_index_or xs n d ≡ x → slice_get (map g xs) n ≡ Some (g x)

@@ -20,8 +20,8 @@ use Rattle.vb_world.specs.World.{name_of, bare_front, StandBare}
 use Rattle.vb_world.proofs.Lists.{get_push, get_push_last}
 use Rattle.ep_drill.specs.declared.part.Part.{Part}
 use Rattle.ep_drill.specs.declared.part.Part.TheVariants as parts
-use Rattle.ep_drill.specs.declared.flat.data.StripeData.{StripeData}
-use Rattle.ep_drill.specs.declared.flat.data.QueueData.{QueueData}
+use Rattle.flat_parts.specs.declared.data.StripeData.{StripeData}
+use Rattle.flat_parts.specs.declared.data.QueueData.{QueueData}
 use Rattle.ep_drill.specs.Parts.{part_stands}
 use Rattle.ep_drill.specs.Stands.{IsGone, StripeStands, QueueStands}
 use Rattle.ep_drill.specs.Opens.{empty_stripe, empty_queue, bare_stripes, bare_list, IsNew}

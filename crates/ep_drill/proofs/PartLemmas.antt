@@ -24,14 +24,14 @@ use Rattle.hold_stage.proofs.Stored.{above_above}
 use Rattle.kv_keeper.specs.declared.data.BatchData.{BatchData}
 use Rattle.kv_keeper.specs.Content.{Content}
 use Rattle.kv_keeper.specs.Batch.{laid}
-use Rattle.ep_drill.specs.declared.flat.data.NodeData.{NodeData}
-use Rattle.ep_drill.specs.declared.flat.data.Outcome.{Outcome}
-use Rattle.ep_drill.specs.declared.flat.data.Outcome.TheVariants as outcomes
-use Rattle.ep_drill.specs.declared.flat.data.PlaceData.{PlaceData}
-use Rattle.ep_drill.specs.declared.flat.data.StripeData.{StripeData}
-use Rattle.ep_drill.specs.declared.flat.data.QueueData.{QueueData}
-use Rattle.ep_drill.specs.Nodes.{node_of, node_at, has_value, is_ejectable, ejected, settle_place, settled}
-use Rattle.ep_drill.specs.Steps.{page_step, restored}
+use Rattle.flat_parts.specs.declared.data.NodeData.{NodeData}
+use Rattle.flat_parts.specs.declared.data.Outcome.{Outcome}
+use Rattle.flat_parts.specs.declared.data.Outcome.TheVariants as outcomes
+use Rattle.flat_parts.specs.declared.data.PlaceData.{PlaceData}
+use Rattle.flat_parts.specs.declared.data.StripeData.{StripeData}
+use Rattle.flat_parts.specs.declared.data.QueueData.{QueueData}
+use Rattle.flat_parts.specs.Nodes.{node_of, node_at, has_value, is_ejectable, ejected, settle_place, settled}
+use Rattle.flat_parts.specs.Steps.{page_step, restored}
 use Rattle.ep_drill.specs.Stands.{ValueStands, NodeStands, IsGone, IsNoRead, IsAbsent, OutcomeStands, ticket_of, PlaceStands, StripeStands, QueueStands, IsFaultWithin, HoldsAt, DeskStands, BatchStands}
 use Rattle.ep_drill.specs.Keeps.{has_failed_later, waiting_later, mutations_step, same_table}
 use Rattle.ep_drill.proofs.ReadLemmas.{IsCalm, places_calm, stripe_calm}

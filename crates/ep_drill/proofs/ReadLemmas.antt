@@ -19,15 +19,15 @@ use Rattle.hold_stage.specs.Mutations.{put_by, mutation_of, puts_on}
 use Rattle.hold_stage.proofs.Effects.{effect_of_get}
 use Rattle.hold_stage.proofs.Later.{world_step, all_append}
 use Rattle.hold_stage.proofs.Bounds.{marked_step}
-use Rattle.ep_drill.specs.declared.flat.data.Outcome.{Outcome}
-use Rattle.ep_drill.specs.declared.flat.data.Outcome.TheVariants as outcomes
-use Rattle.ep_drill.specs.declared.flat.data.PlaceData.{PlaceData}
-use Rattle.ep_drill.specs.declared.flat.data.StripeData.{StripeData}
-use Rattle.ep_drill.specs.declared.flat.data.ReadData.{ReadData}
-use Rattle.ep_drill.specs.declared.flat.data.Step.{Step}
-use Rattle.ep_drill.specs.declared.flat.data.Step.TheVariants as steps
-use Rattle.ep_drill.specs.Nodes.{is_not_numbered, released}
-use Rattle.ep_drill.specs.Steps.{read_done, read_refused}
+use Rattle.flat_parts.specs.declared.data.Outcome.{Outcome}
+use Rattle.flat_parts.specs.declared.data.Outcome.TheVariants as outcomes
+use Rattle.flat_parts.specs.declared.data.PlaceData.{PlaceData}
+use Rattle.flat_parts.specs.declared.data.StripeData.{StripeData}
+use Rattle.flat_parts.specs.declared.data.ReadData.{ReadData}
+use Rattle.flat_parts.specs.declared.data.Step.{Step}
+use Rattle.flat_parts.specs.declared.data.Step.TheVariants as steps
+use Rattle.flat_parts.specs.Nodes.{is_not_numbered, released}
+use Rattle.flat_parts.specs.Steps.{read_done, read_refused}
 use Rattle.ep_drill.specs.Stands.{ValueStands, IsGone, IsNoRead, IsAbsent, OutcomeStands, ticket_of, PlaceStands, StripeStands}
 use Rattle.ep_drill.specs.Keeps.{has_failed_later, waiting_later}
 

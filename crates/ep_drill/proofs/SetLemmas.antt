@@ -32,17 +32,17 @@ use Rattle.hold_stage.proofs.Effects.{IsNext, effect_is_next}
 use Rattle.hold_stage.proofs.Views.{frame_after}
 use Rattle.hold_stage.proofs.Later.{world_step, all_append}
 use Rattle.hold_stage.proofs.Bounds.{marked_step, legal_bounds}
-use Rattle.ep_drill.specs.declared.flat.data.NodeData.{NodeData}
-use Rattle.ep_drill.specs.declared.flat.data.Outcome.{Outcome}
-use Rattle.ep_drill.specs.declared.flat.data.Outcome.TheVariants as outcomes
-use Rattle.ep_drill.specs.declared.flat.data.PlaceData.{PlaceData}
-use Rattle.ep_drill.specs.declared.flat.data.StripeData.{StripeData}
-use Rattle.ep_drill.specs.declared.flat.data.QueueData.{QueueData}
-use Rattle.ep_drill.specs.declared.flat.data.WriteData.{WriteData}
-use Rattle.ep_drill.specs.declared.flat.data.Step.{Step}
-use Rattle.ep_drill.specs.declared.flat.data.Step.TheVariants as steps
-use Rattle.ep_drill.specs.Nodes.{doc_of, node_of, node_at, put_node, released, forgotten}
-use Rattle.ep_drill.specs.Steps.{shown_value, shown_docs, shown_world, stripe_after, queue_after, write_step}
+use Rattle.flat_parts.specs.declared.data.NodeData.{NodeData}
+use Rattle.flat_parts.specs.declared.data.Outcome.{Outcome}
+use Rattle.flat_parts.specs.declared.data.Outcome.TheVariants as outcomes
+use Rattle.flat_parts.specs.declared.data.PlaceData.{PlaceData}
+use Rattle.flat_parts.specs.declared.data.StripeData.{StripeData}
+use Rattle.flat_parts.specs.declared.data.QueueData.{QueueData}
+use Rattle.flat_parts.specs.declared.data.WriteData.{WriteData}
+use Rattle.flat_parts.specs.declared.data.Step.{Step}
+use Rattle.flat_parts.specs.declared.data.Step.TheVariants as steps
+use Rattle.flat_parts.specs.Nodes.{doc_of, node_of, node_at, put_node, released, forgotten}
+use Rattle.flat_parts.specs.Steps.{shown_value, shown_docs, shown_world, stripe_after, queue_after, write_step}
 use Rattle.ep_drill.specs.Stands.{ValueStands, NodeStands, IsGone, IsNoRead, IsAbsent, OutcomeStands, ticket_of, PlaceStands, StripeStands, QueueStands}
 use Rattle.ep_drill.specs.Keeps.{has_failed_later, waiting_later, mutations_step, same_table}
 use Rattle.ep_drill.proofs.AskLemmas.{with_places}

@@ -9,26 +9,26 @@ use Rattle.ep_model.specs.declared.event.PartName.TheVariants.{Stripe, Queue, De
 use Rattle.ep_model.specs.declared.data.EventData.TheVariants as events
 use Rattle.ep_model.specs.declared.data.FrontData.{FrontData}
 use Rattle.ep_model.specs.World.{Doc, Docs, World}
-use Rattle.ep_model.specs.Front.{world_of, with_event, marked}
+use Rattle.ep_model.specs.Front.{begun, world_of, with_event, marked}
 use Rattle.ep_model.specs.Legal.{May, IsLegal}
 use Rattle.hold_stage.specs.Touches.{touches, is_of, is_call, is_desks}
 use Rattle.hold_stage.specs.Grows.{Same, and_this, Covered, IsOwn}
-use Rattle.hold_stage.specs.Mutations.{above, laid_on}
+use Rattle.hold_stage.specs.Mutations.{mutations, above, laid_on}
 use Rattle.hold_stage.proofs.Callers.{same_is}
 use Rattle.hold_stage.proofs.Later.{world_step}
 use Rattle.hold_stage.proofs.Bounds.{legal_bounds}
 use Rattle.hold_stage.proofs.Stored.{laid_append}
 use Rattle.kv_keeper.specs.declared.data.BatchData.{BatchData}
 use Rattle.kv_keeper.specs.declared.data.DeskData.{DeskData}
-use Rattle.kv_keeper.specs.Batch.{laid, empty_batch}
+use Rattle.kv_keeper.specs.Batch.{Entry, with_row, laid, empty_batch}
 use Rattle.kv_keeper.specs.Content.{Content}
 use Rattle.kv_keeper.specs.Desk.{IsSure}
 use Rattle.kv_keeper.specs.Kept.{committed}
-use Rattle.ep_drill.specs.declared.flat.data.StripeData.{StripeData}
-use Rattle.ep_drill.specs.declared.flat.data.QueueData.{QueueData}
+use Rattle.flat_parts.specs.declared.data.StripeData.{StripeData}
+use Rattle.flat_parts.specs.declared.data.QueueData.{QueueData}
 use Rattle.ep_drill.specs.declared.store.Flushed.TheVariants as flushes
 use Rattle.ep_drill.specs.Stands.{StripeStands, QueueStands, DeskStands, BatchStands}
-use Rattle.ep_drill.specs.Answers.{IsTaken, IsFlushed}
+use Rattle.ep_drill.specs.Answers.{rows_of, IsTaken, IsFlushed}
 use Rattle.ep_drill.proofs.CallLemmas.{holds_stripe}
 use Rattle.ep_drill.proofs.StoreLemmas.{batch_taken}
 use Rattle.ep_drill.proofs.PartLemmas.{may_mark, marked_stands, may_persist, persisted_queue, persisted_desk, doubted_desk}
@@ -95,12 +95,26 @@ laid_more first rows more items i key other doc same before is key-is doc-is add
     ∙ sym (laid_append (laid first docs) (take i items) ((key, doc) ∷ []))
     ∙ sym (ap (laid_on (laid first docs)) (take_more items i (key, doc) is))
 
+rows_append : (rows : List Entry) (puts more : List (List ℕ × Doc)) → rows_of rows (puts ++ more) ≡ rows_of (rows_of rows puts) more
+rows_append rows [] more = refl
+rows_append rows (put ∷ puts) more = rows_append (with_row rows put.0 put.1) puts more
+
+pub rows_more : (first rows more items : List (List ℕ × Doc)) (i : ℕ) (key other : List ℕ) (doc same : Doc)
+    → rows ≡ rows_of first (take i items) → slice_get items i ≡ Some (key, doc) → other ≡ key → same ≡ doc → more ≡ with_row rows other same → more ≡ rows_of first (take (i + 1) items)
+rows_more first rows more items i key other doc same before is key-is doc-is added =
+    added
+    ∙ ap (λ (l : List ℕ). with_row rows l same) key-is
+    ∙ ap (λ (d : Doc). with_row rows key d) doc-is
+    ∙ ap (λ (l : List Entry). with_row l key doc) before
+    ∙ sym (rows_append first (take i items) ((key, doc) ∷ []))
+    ∙ sym (ap (λ (l : List (List ℕ × Doc)). rows_of first l) (take_more items i (key, doc) is))
+
 -- What a queue holds makes a batch that stands and goes up to the last mutation, where not all of it is stored.
 pub taken_stands : (f₀ f : FrontData) (stored high persisted top most : ℕ) (q : QueueData) (empty filled : BatchData)
     → f ≡ f₀ → (world_of f₀).opened ≡ true → stored ≡ (world_of f₀).persisted → IsLegal f → QueueStands f q → high ≡ q.high → persisted ≡ q.persisted → (high ≡ persisted → ⊥)
     → top ≡ q.high → most ≡ q.maxcas → empty ≡ empty_batch top most → filled.to ≡ empty.to → filled.maxcas ≡ empty.maxcas → ((docs : Docs) → laid filled.rows docs ≡ laid_on (laid empty.rows docs) q.items)
-    → IsTaken f₀ stored (Some filled)
-taken_stands f₀ f stored high persisted top most q empty filled front opened is legal s high-is persisted-is differs top-is most-is begins to maxcas laid-is =
+    → filled.rows ≡ rows_of empty.rows q.items → IsTaken f₀ stored (Some filled)
+taken_stands f₀ f stored high persisted top most q empty filled front opened is legal s high-is persisted-is differs top-is most-is begins to maxcas laid-is rows-are =
     let here : stored ≡ (world_of f).persisted = is ∙ sym (ap (λ (g : FrontData). (world_of g).persisted) front) in
     let bounds = (legal_bounds f legal).stored in
     let all = s.high in let known = s.persisted in
@@ -111,6 +125,8 @@ taken_stands f₀ f stored high persisted top most q empty filled front opened i
           (maxcas ∙ ap (λ (b : BatchData). b.maxcas) begins ∙ most-is)
           (λ docs. laid-is docs ∙ ap (λ (b : BatchData). laid_on (laid b.rows docs) q.items) begins)),
       whole ∙ s.high ∙ ap (λ (g : FrontData). (world_of g).high) front,
+      rows-are ∙ ap (λ (b : BatchData). rows_of b.rows q.items) begins ∙ ap (λ (l : List (List ℕ × Doc)). rows_of [] l) s.items
+          ∙ ap (λ (g : FrontData). rows_of [] (above (world_of g).persisted (mutations (begun g) g.events))) front,
     )
 
 -- A commit, from what it says and what the taking of the queue and the desk says.

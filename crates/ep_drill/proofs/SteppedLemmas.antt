@@ -2,9 +2,11 @@
 use Rattle.std.proofs.Common.{◌≡◌, ◌<◌, inr, ℕ, ◌+◌, List, [], ◌∷◌, ◌++◌, take, get_or, length, map, slice_get, slice_set, refl, sym, ap, subst, ◌∙◌}
 use Rattle.std.specs.Prelude.{Some, None, Result, Ok, Err, IfOk, OnErr}
 use Rattle.std.proofs.lemmas.List.{map-set, take_more}
+use Rattle.std.proofs.lemmas.Option.{slice_get-get_or}
 use Rattle.vb_world.proofs.Lists.{map-set_kept}
 use Rattle.ep_model.specs.declared.config.Config.{Config}
 use Rattle.ep_model.specs.declared.event.PartName.TheVariants.{Stripe}
+use Rattle.hold_stage.specs.Touches.{is_stripe}
 use Rattle.vb_world.specs.declared.data.WorldData.{WorldData}
 use Rattle.vb_world.specs.World.{part_in}
 use Rattle.ep_drill.specs.declared.part.Part.{Part}
@@ -16,9 +18,10 @@ use Rattle.ep_drill.specs.declared.data.BenchData.{BenchData}
 use Rattle.ep_drill.specs.declared.data.CoreData.{CoreData}
 use Rattle.ep_drill.specs.declared.store.Paged.{Paged}
 use Rattle.ep_drill.specs.Answers.{IsPaged}
+use Rattle.ep_drill.specs.Calls.{KeptBut}
 use Rattle.ep_drill.specs.Core.{bench_data, core_data, Moved, Rested, Interleaves, GoesOn}
 use Rattle.ep_drill.specs.Fetches.{HasWaiting}
-use Rattle.ep_drill.specs.Stepped.{AtBench, BenchIs, IsBenched, WasPaged, Ran, Spares, Stepped}
+use Rattle.ep_drill.specs.Stepped.{AtBench, BenchIs, IsBenched, WasPaged, Ran, RanSome, Spares, Stepped, TakesMemory}
 use Rattle.ep_drill.proofs.EngineLemmas.{bench_at}
 use Rattle.ep_drill.proofs.Lists.{set_same}
 
@@ -90,13 +93,9 @@ mark_err old config w z benches callers vb stripe (Err e) is low within err =
 
 -- the pager was at a stripe
 pub paged_at : (old : CoreData) (config : Config) (w z : WorldData Part) (benches : List Bench) (callers : List Caller) (vb stripe : ℕ) (paged : Paged) → core_data config w benches callers ≡ old → Moved config vb None w z
-    → IsPaged (part_in w vb (Stripe stripe)) (part_in z vb (Stripe stripe)) paged → WasPaged old (core_data config z benches callers) vb stripe paged
-paged_at old config w z benches callers vb stripe paged is moved done =
-    subst (λ (o : CoreData). WasPaged o (core_data config z benches callers) vb stripe paged) is (record { left = refl; moved = moved; done = done })
-
--- nothing is spared where nothing was done
-pub spares_refl : (core : CoreData) → Interleaves core → Spares core core
-spares_refl core i = record { left = refl; rested = record { ready = i.ready; fronts = λ u. refl; parts = λ u p. refl } }
+    → IsPaged (part_in w vb (Stripe stripe)) (part_in z vb (Stripe stripe)) paged → KeptBut config (is_stripe stripe) (part_in w vb) (part_in z vb) → WasPaged old (core_data config z benches callers) vb stripe paged
+paged_at old config w z benches callers vb stripe paged is moved done kept =
+    subst (λ (o : CoreData). WasPaged o (core_data config z benches callers) vb stripe paged) is (record { left = refl; moved = moved; done = done; kept = kept })
 
 -- one step more
 pub ran_more : (old last new : CoreData) (steps : List StepChoice) (said : List Answer) (choice : StepChoice) (answer : Answer) → Ran old last steps said → Stepped last new choice answer → GoesOn last new → Interleaves new
@@ -113,3 +112,9 @@ pub ran_next : (old last new : CoreData) (steps : List StepChoice) (said : List 
     → GoesOn last new → Interleaves new → Ran old new (take (n + 1) steps) (said ++ answer ∷ [])
 ran_next old last new steps said n other answer within ran stepped goes i =
     subst (λ (l : List StepChoice). Ran old new l (said ++ answer ∷ [])) (sym (take_more steps n other within)) (ran_more old last new (take n steps) said (get_or steps n other) answer ran stepped goes i)
+
+-- So many were made, and the next wanted memory.
+pub ran_some : (old last new : CoreData) (steps : List StepChoice) (said : List Answer) (n : ℕ) (other : StepChoice) → n < length steps → Ran old last (take n steps) said → Spares last new × TakesMemory last (get_or steps n other)
+    → RanSome old new steps
+ran_some old last new steps said n other within ran err =
+    record { made = n; said = said; last = last; ran = ran; wanting = inr (get_or steps n other, slice_get-get_or steps n other within, err.1); spares = err.0 }

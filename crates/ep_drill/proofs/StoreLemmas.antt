@@ -26,10 +26,10 @@ use Rattle.hold_stage.proofs.Mutations.{upto_append}
 use Rattle.kv_keeper.specs.declared.data.BatchData.{BatchData}
 use Rattle.kv_keeper.specs.Content.{Content}
 use Rattle.kv_keeper.specs.Batch.{laid}
-use Rattle.ep_drill.specs.declared.flat.data.QueueData.{QueueData}
-use Rattle.ep_drill.specs.declared.flat.data.FetchedData.{FetchedData}
-use Rattle.ep_drill.specs.declared.flat.data.FoundData.{FoundData}
-use Rattle.ep_drill.specs.declared.flat.data.FoundData.TheVariants as founds
+use Rattle.flat_parts.specs.declared.data.QueueData.{QueueData}
+use Rattle.ep_drill.specs.declared.data.FetchedData.{FetchedData}
+use Rattle.ep_drill.specs.declared.data.FoundData.{FoundData}
+use Rattle.ep_drill.specs.declared.data.FoundData.TheVariants as founds
 use Rattle.ep_drill.specs.Stands.{QueueStands, IsAbsent, IsFaultWithin, HoldsAt, ContentStands, DeskStands, BatchStands, FoundStands, FetchedStands}
 use Rattle.ep_drill.proofs.WaitLemmas.{and_left, and_right, not_true, docs_apart, waiting_low}
 

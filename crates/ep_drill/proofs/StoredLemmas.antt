@@ -1,11 +1,14 @@
 -- What the work at a stage of one vBucket leaves of its bench.
-use Rattle.std.proofs.Common.{◌≡◌, ◌<◌, ℕ, zero, suc, false, List, [], ◌∷◌, map, refl, sym, ap, subst, ◌∙◌, slice_set}
+use Rattle.std.proofs.Common.{◌≡◌, ◌<◌, ℕ, false, List, map, refl, sym, ap, subst, ◌∙◌, slice_set}
 use Rattle.std.specs.Prelude.{Option, Some, None, IfSome}
 use Rattle.std.specs.Option.{option_map}
+use Rattle.std.proofs.lemmas.List.{map-set}
 use Rattle.ep_model.specs.declared.config.Config.{Config}
 use Rattle.ep_model.specs.declared.data.FrontData.{FrontData}
+use Rattle.ep_model.specs.declared.event.PartName.{PartName}
+use Rattle.ep_model.specs.declared.event.PartName.TheVariants.{Stripe}
 use Rattle.ep_model.specs.Legal.{IsLegal}
-use Rattle.hold_stage.specs.Touches.{is_call, is_desks}
+use Rattle.hold_stage.specs.Touches.{is_stripe, is_call, is_desks}
 use Rattle.kv_keeper.specs.declared.data.BatchData.{BatchData}
 use Rattle.kv_keeper.specs.declared.data.DeskData.{DeskData}
 use Rattle.kv_keeper.specs.Memory.{MemoryData}
@@ -14,25 +17,19 @@ use Rattle.vb_world.specs.declared.data.WorldData.{WorldData}
 use Rattle.vb_world.specs.World.{front_in, part_in, fixed_in, Sound}
 use Rattle.ep_drill.specs.declared.data.BenchData.{BenchData}
 use Rattle.ep_drill.specs.declared.fetched.Fetched.{Fetched}
-use Rattle.ep_drill.specs.declared.flat.data.FetchedData.{FetchedData}
+use Rattle.ep_drill.specs.declared.data.FetchedData.{FetchedData}
 use Rattle.ep_drill.specs.declared.part.Part.{Part}
 use Rattle.ep_drill.specs.declared.store.Marking.{Marking}
 use Rattle.ep_drill.specs.declared.store.Marking.TheVariants as markings
-use Rattle.ep_drill.specs.Parts.{part_stands}
-use Rattle.ep_drill.specs.Calls.{noted, AreHome}
+use Rattle.ep_drill.specs.Parts.{part_stands, Becomes}
+use Rattle.ep_drill.specs.Calls.{noted, AreHome, KeptBut}
 use Rattle.ep_drill.specs.Answers.{IsMarked, IsTaken}
 use Rattle.ep_drill.specs.Fetches.{fetched_data, DeskRead, IsRead}
 use Rattle.ep_drill.specs.Stands.{BatchStands}
 use Rattle.ep_drill.specs.Core.{BenchStands, Ready, Moved, Worked}
 use Rattle.ep_drill.specs.Works.{marked_by, WasMarked}
 use Rattle.ep_drill.proofs.BenchLemmas.{bench_noted, bench_taken, bench_asked, bench_read}
-use Rattle.ep_drill.proofs.WorkedLemmas.{moved_with_room, worked_by}
-
--- what a replaced element of a list comes to
-map_set : {A B : Type 0} (f : A → B) (xs : List A) (n : ℕ) (x : A) → map f (slice_set xs n x) ≡ slice_set (map f xs) n (f x)
-map_set f [] n x = refl
-map_set f (y ∷ xs) zero x = refl
-map_set {B = B} f (y ∷ xs) (suc n) x = ap (λ (l : List B). f y ∷ l) (map_set f xs n x)
+use Rattle.ep_drill.proofs.WorkedLemmas.{moved_with_room, worked_by, begun_with_room, layout_with_room, kept_at}
 
 -- The stage begins at the world `a`, and what is done there notes nothing.
 module _ (a s z : WorldData Part) (vb sv zv : ℕ) (w : s ≡ a) (at : sv ≡ vb) (fixed : fixed_in z zv ≡ fixed_in s sv) (front : front_in z zv ≡ front_in s sv) where
@@ -77,7 +74,7 @@ module _ (a s z : WorldData Part) (vb sv zv : ℕ) (w : s ≡ a) (at : sv ≡ vb
       let here : IsRead (front_in a vb) stripe desk.read_faults now.read_faults (Some fetched) = subst (λ (f : FrontData). IsRead f stripe desk.read_faults now.read_faults (Some fetched)) front_begun at-stage in
       let after = bench_read (front_in a vb) before now stripe (fetched_data fetched) b within told here.0 here.1 here.2 in
       let same : slice_set (map (option_map fetched_data) reads) stripe (Some (fetched_data fetched)) ≡ map (option_map fetched_data) (slice_set reads index (Some fetched)) =
-      sym (map_set (option_map fetched_data) reads stripe (Some fetched)) ∙ ap (λ (n : ℕ). map (option_map fetched_data) (slice_set reads n (Some fetched))) (sym is) in
+      sym (map-set (option_map fetched_data) reads stripe (Some fetched)) ∙ ap (λ (n : ℕ). map (option_map fetched_data) (slice_set reads n (Some fetched))) (sym is) in
       bench_still (record { desk = now; batch = batch; reads = map (option_map fetched_data) (slice_set reads index (Some fetched)) })
       (subst (λ (l : List (Option FetchedData)). BenchStands (front_in a vb) (record { desk = now; batch = batch; reads = l })) same after)
 
@@ -114,12 +111,21 @@ module _ (config : Config) (a r s z : WorldData Part) (vb sv zv n m stripe numbe
       (subst (λ (k : ℕ). IsMarked (front_in s sv) (front_in z k) stripe number marking) v is)
 
   -- the bench is left as it was
-  pub mark_marks : (bench : BenchData) → bench.desk.noted ≡ number → WasMarked config vb stripe marking a z bench bench
-  mark_marks bench same =
+  pub mark_marks : (bench : BenchData) → bench.desk.noted ≡ number → Becomes (part_in s sv (Stripe stripe)) (part_in z zv (Stripe stripe)) (λ x. record x { mark = number })
+      → KeptBut (front_in s sv).config (is_stripe stripe) (part_in s sv) (part_in z zv) → WasMarked config vb stripe marking a z bench bench
+  mark_marks bench same raised kept =
+      let begun : (p : PartName) → part_in s sv p ≡ part_in a vb p = begun_with_room a r s vb sv n m room w at in
+      let v : zv ≡ vb = ap (λ (k : FixedData Part). k.vb) fixed ∙ at in
+      let here : Becomes (part_in a vb (Stripe stripe)) (part_in z zv (Stripe stripe)) (λ x. record x { mark = number }) =
+      subst (λ (o : Option Part). Becomes o (part_in z zv (Stripe stripe)) (λ x. record x { mark = number })) (begun (Stripe stripe)) raised in
+      let there : Becomes (part_in a vb (Stripe stripe)) (part_in z vb (Stripe stripe)) (λ x. record x { mark = number }) =
+      subst (λ (k : ℕ). Becomes (part_in a vb (Stripe stripe)) (part_in z k (Stripe stripe)) (λ x. record x { mark = number })) v here in
       record {
         left = refl;
         moved = subst (λ (k : ℕ). Moved config vb (marked_by stripe k marking) a z) (sym same) mark_moved;
         told = subst (λ (k : ℕ). IsMarked (front_in a vb) (front_in z vb) stripe k marking) (sym same) mark_told;
+        raised = subst (λ (k : ℕ). Becomes (part_in a vb (Stripe stripe)) (part_in z vb (Stripe stripe)) (λ x. record x { mark = k })) (sym same) there;
+        kept = kept_at config a s z vb sv zv (layout_with_room config a r s n m ready.layout room w) begun at fixed (λ k. is_stripe stripe) kept;
       }
 
   pub mark_worked : Worked config vb a z

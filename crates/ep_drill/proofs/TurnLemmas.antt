@@ -1,11 +1,11 @@
 -- A core goes on from step to step: what a caller's turn leaves of it, and what many steps do.
-use Rattle.std.proofs.Common.{◌≡◌, ◌<◌, ◌≤◌, ◌^◌, ℕ, zero, suc, inl, inr, List, [], ◌∷◌, ◌++◌, map, length, slice_get, slice_set, slice_index_or, refl, sym, ap, subst, ◌∙◌, arith}
+use Rattle.std.proofs.Common.{◌≡◌, ◌<◌, ◌≤◌, ◌^◌, ℕ, zero, suc, inl, inr, List, [], ◌∷◌, ◌++◌, map, slice_get, slice_set, refl, sym, ap, subst, ◌∙◌, arith}
 use Rattle.std.specs.Prelude.{Option, Some, None, IsSome, Result, Ok, Err, IfOk, OnErr}
 use Rattle.std.specs.Option.{option_map}
 use Rattle.std.specs.List.{AllByRecursion}
 use Rattle.std.proofs.lemmas.Bool.{cases_eq}
 use Rattle.std.proofs.lemmas.List.{append-nil, append_assoc, map-set}
-use Rattle.std.proofs.lemmas.Option.{slice_get-map, slice_get_read}
+use Rattle.std.proofs.lemmas.Option.{slice_get-map}
 use Rattle.vb_world.proofs.Lists.{map-set_kept}
 use Rattle.ep_drill.proofs.Lists.{set_same}
 use Rattle.ep_model.specs.declared.config.Config.{Config}
@@ -20,7 +20,7 @@ use Rattle.ep_drill.specs.declared.owned.Caller.{Caller}
 use Rattle.ep_drill.specs.declared.owned.Loaded.{Loaded}
 use Rattle.ep_drill.specs.declared.data.CallerData.{CallerData}
 use Rattle.ep_drill.specs.declared.data.CoreData.{CoreData}
-use Rattle.ep_drill.specs.declared.flat.data.Step.{Step}
+use Rattle.flat_parts.specs.declared.data.Step.{Step}
 use Rattle.ep_drill.specs.Parts.{part_stands}
 use Rattle.ep_drill.specs.Calls.{event_of, noted}
 use Rattle.ep_drill.specs.Callers.{CallerStands, caller_data, loaded_data, next_of, after_step, tried_of}
@@ -139,10 +139,6 @@ caller_of config w benches callers place number told caller here its i at =
     let stands : CallerStands (front_in w) place (caller_data caller) = i.callers place (caller_data caller) (get_told caller_data callers place caller at) in
     (subst (λ (k : ℕ). CallerStands (front_in w) k (caller_data caller)) (here ∙ sym its) stands, i.loaded place (caller_data caller) (get_told caller_data callers place caller at))
 
--- what a list lends for a while at a place stands there
-pub lent_at : {A : Type 0} (xs : List A) (n i : ℕ) (x : A) → n ≡ length xs → i < n → x ≡ slice_index_or xs i x → slice_get xs i ≡ Some x
-lent_at xs n i x count within is = slice_get_read xs n i x count within is
-
 -- where nothing was done, the core is as it should be and goes on
 pub kept_still : (core old : CoreData) → core ≡ old → Interleaves core → Interleaves old × GoesOn old old
 kept_still core old is i = (subst (λ (k : CoreData). Interleaves k) is i, goes_on_refl old)
@@ -186,6 +182,7 @@ fronted_at old config w z benches callers place number told now caller after val
       told = refl;
       moved = subst (λ (k : ℕ). Moved config ok.0.0 (event_of k ok.0.1 now caller.prior value step) w z) its ok.2;
       comes = ok.4;
+      kept = ok.5;
       left = ap (λ (l : List CallerData). record first { world = z; callers = l }) list;
     } in
     subst (λ (o : CoreData). WasTried o last told now (tried_of step)) is tried

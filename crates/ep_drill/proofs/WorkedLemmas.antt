@@ -1,5 +1,5 @@
 -- What a step at a stage of one vBucket does to the whole world.
-use Rattle.std.proofs.Common.{◌≡◌, ◌<◌, ℕ, refl, ap, subst, ◌∙◌}
+use Rattle.std.proofs.Common.{◌≡◌, ◌<◌, ℕ, Bool, refl, sym, ap, subst, ◌∙◌}
 use Rattle.std.specs.Prelude.{List, Option, None, IfSome, true, false, Result, Ok, Err, IfOk, OnErr}
 use Rattle.ep_model.specs.declared.config.Config.{Config}
 use Rattle.ep_model.specs.declared.data.CallData.{CallData}
@@ -11,9 +11,9 @@ use Rattle.vb_world.specs.declared.data.WorldData.{WorldData}
 use Rattle.vb_world.specs.World.{front_in, part_in, fixed_in}
 use Rattle.ep_model.specs.declared.event.PartName.{PartName}
 use Rattle.ep_model.specs.declared.event.Ticket.{Ticket}
-use Rattle.ep_drill.specs.declared.flat.data.Step.{Step}
+use Rattle.flat_parts.specs.declared.data.Step.{Step}
 use Rattle.ep_drill.specs.declared.part.Part.{Part}
-use Rattle.ep_drill.specs.Calls.{event_of, noted, AreHome}
+use Rattle.ep_drill.specs.Calls.{event_of, noted, AreHome, KeptBut}
 use Rattle.ep_drill.specs.Core.{Ready, Moved, Rested, Worked}
 use Rattle.ep_drill.proofs.WorldLemmas.{moved_by, moved_room, rested_by, room_rests, rested_then}
 
@@ -82,3 +82,18 @@ tried_at config a r s z vb sv zv n m number caller now call spoken prior value (
 -- a step that notes no call
 pub worked_by : (config : Config) (a b : WorldData Part) (vb : ℕ) (event : Option EventData) → Moved config vb event a b → IfSome event (λ e. is_call e ≡ false) → Worked config vb a b
 worked_by config a b vb event moved quiet = record { event = event; moved = moved; quiet = quiet }
+
+-- The parts that a call at a stage didn't touch are as they were.
+module _ (config : Config) (a s z : WorldData Part) (vb sv zv : ℕ) (layout : s.config ≡ config) (begun : (p : PartName) → part_in s sv p ≡ part_in a vb p) (at : sv ≡ vb) (fixed : fixed_in z zv ≡ fixed_in s sv) where
+  pub kept_at : (touched : Config → PartName → Bool) → KeptBut (front_in s sv).config (touched (front_in s sv).config) (part_in s sv) (part_in z zv) → KeptBut config (touched config) (part_in a vb) (part_in z vb)
+  kept_at touched kept = λ p is apart.
+      let v : zv ≡ vb = ap (λ (k : FixedData Part). k.vb) fixed ∙ at in
+      ap (λ (k : ℕ). part_in z k p) (sym v) ∙ kept p (ap (λ (k : Config). there k p) layout ∙ is) (ap (λ (k : Config). touched k p) layout ∙ apart) ∙ begun p
+
+-- A stage's parts are the vBucket's, where it began at its world with other room,
+pub begun_with_room : (a r s : WorldData Part) (vb sv n m : ℕ) → r ≡ record a { event_room = n; byte_room = m } → s ≡ r → sv ≡ vb → (p : PartName) → part_in s sv p ≡ part_in a vb p
+begun_with_room a r s vb sv n m room w at p = ap (λ (k : ℕ). part_in s k p) at ∙ ap (λ (k : WorldData Part). part_in k vb p) (w ∙ room)
+
+-- and its layout is the world's
+pub layout_with_room : (config : Config) (a r s : WorldData Part) (n m : ℕ) → a.config ≡ config → r ≡ record a { event_room = n; byte_room = m } → s ≡ r → s.config ≡ config
+layout_with_room config a r s n m layout room w = ap (λ (k : WorldData Part). k.config) (w ∙ room) ∙ layout

@@ -1,10 +1,13 @@
 -- What the store's side answers, and what it leaves.
-use Rattle.std.specs.Prelude.{◌≡◌, ℕ, ◌^◌, ◌-◌, min, Option, Some, None}
+use Rattle.std.specs.Prelude.{◌≡◌, ℕ, ◌^◌, ◌-◌, min, List, [], ◌∷◌, Option, Some, None}
 use Rattle.ep_model.specs.declared.data.EventData.TheVariants as events
 use Rattle.ep_model.specs.declared.data.FrontData.{FrontData}
-use Rattle.ep_model.specs.Front.{world_of, with_event, marked}
+use Rattle.ep_model.specs.World.{Doc}
+use Rattle.ep_model.specs.Front.{begun, world_of, with_event, marked}
+use Rattle.hold_stage.specs.Mutations.{mutations, above}
 use Rattle.kv_keeper.specs.declared.data.BatchData.{BatchData}
 use Rattle.kv_keeper.specs.declared.data.DeskData.{DeskData}
+use Rattle.kv_keeper.specs.Batch.{Entry, with_row}
 use Rattle.kv_keeper.specs.Content.{Content}
 use Rattle.ep_drill.specs.declared.part.Part.{Part}
 use Rattle.ep_drill.specs.declared.part.Part.TheVariants as parts
@@ -13,7 +16,7 @@ use Rattle.ep_drill.specs.declared.store.Marking.TheVariants as markings
 use Rattle.ep_drill.specs.declared.store.Paged.{Paged}
 use Rattle.ep_drill.specs.declared.store.Flushed.{Flushed}
 use Rattle.ep_drill.specs.declared.store.Flushed.TheVariants as flushes
-use Rattle.ep_drill.specs.Steps.{page_step}
+use Rattle.flat_parts.specs.Steps.{page_step}
 use Rattle.ep_drill.specs.Stands.{DeskStands, BatchStands}
 
 -- Idle exactly where the stripe knows what is noted; else that is told.
@@ -29,10 +32,16 @@ IsPaged (Some (parts.Stripe x)) new paged =
 IsPaged (Some (parts.Queue q)) new paged = ⊥
 IsPaged (Some (parts.Desk d)) new paged = ⊥
 
--- a batch that stands and goes up to the last mutation, or all is stored
+-- rows with these mutations laid over them in order, each in place of an earlier one of its key
+abbrev pub rows_of : List Entry → List (List ℕ × Doc) → List Entry
+rows_of rows [] = rows
+rows_of rows (put ∷ puts) = rows_of (with_row rows put.0 put.1) puts
+
+-- a batch that stands and has the last mutation of each key that isn't stored, up to the last, or all is stored
 abbrev pub IsTaken : FrontData → ℕ → Option BatchData → Type 0
 IsTaken f stored None = (world_of f).high ≡ (world_of f).persisted
-IsTaken f stored (Some batch) = BatchStands f stored batch × (batch.to ≡ (world_of f).high)
+IsTaken f stored (Some batch) =
+    BatchStands f stored batch × (batch.to ≡ (world_of f).high) × (batch.rows ≡ rows_of [] (above (world_of f).persisted (mutations (begun f) f.events)))
 
 -- what is known of a desk whose store tells what it holds
 abbrev pub DeskKnown : {K : Type 0} → FrontData → Option Content → DeskData K → Type 0

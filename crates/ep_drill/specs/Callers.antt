@@ -13,8 +13,8 @@ use Rattle.ep_model.specs.declared.event.Ticket.{Ticket}
 use Rattle.ep_drill.specs.declared.choice.Tried.{Tried}
 use Rattle.ep_drill.specs.declared.choice.Tried.TheVariants as tries
 use Rattle.ep_drill.specs.declared.data.CallerData.{CallerData}
-use Rattle.ep_drill.specs.declared.flat.data.Step.{Step}
-use Rattle.ep_drill.specs.declared.flat.data.Step.TheVariants as steps
+use Rattle.flat_parts.specs.declared.data.Step.{Step}
+use Rattle.flat_parts.specs.declared.data.Step.TheVariants as steps
 use Rattle.ep_drill.specs.declared.owned.OwnedCall.{OwnedCall}
 use Rattle.ep_drill.specs.declared.owned.OwnedCall.TheVariants as owned
 use Rattle.ep_drill.specs.declared.owned.Loaded.{Loaded}

@@ -9,8 +9,8 @@ use Rattle.ep_model.specs.declared.data.EventData.TheVariants as events
 use Rattle.ep_model.specs.declared.data.FrontData.{FrontData}
 use Rattle.ep_model.specs.Front.{with_event}
 use Rattle.hold_stage.specs.Touches.{there}
-use Rattle.ep_drill.specs.declared.flat.data.Step.{Step}
-use Rattle.ep_drill.specs.declared.flat.data.Step.TheVariants as steps
+use Rattle.flat_parts.specs.declared.data.Step.{Step}
+use Rattle.flat_parts.specs.declared.data.Step.TheVariants as steps
 
 -- the ticket is the one that was asked before
 abbrev pub is_prior : Option Ticket → Ticket → Bool
@@ -32,6 +32,10 @@ noted f (Some event) = with_event f event
 -- a vBucket's parts are all at home
 abbrev pub AreHome : {P : Type 0} → Config → (PartName → Option P) → Type 0
 AreHome config tells = (p : PartName) → there config p ≡ true → IsSome (tells p)
+
+-- of the parts that a vBucket has, all but those that may be touched are as they were
+abbrev pub KeptBut : {P : Type 0} → Config → (PartName → Bool) → (PartName → Option P) → (PartName → Option P) → Type 0
+KeptBut config touched old new = (p : PartName) → there config p ≡ true → touched p ≡ false → new p ≡ old p
 
 -- there is room for an event of at most so many bytes
 abbrev pub HasRoom : ℕ → (ℕ → ℕ → Type 0) → Type 0

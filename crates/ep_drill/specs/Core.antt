@@ -9,7 +9,7 @@ use Rattle.ep_model.specs.declared.data.EventData.{EventData}
 use Rattle.ep_model.specs.declared.data.FrontData.{FrontData}
 use Rattle.ep_model.specs.Config.{config_fault}
 use Rattle.ep_model.specs.Front.{world_of}
-use Rattle.hold_stage.specs.Touches.{is_call}
+use Rattle.hold_stage.specs.Touches.{is_call, touches_call}
 use Rattle.kv_keeper.specs.declared.data.BatchData.{BatchData}
 use Rattle.vb_world.specs.declared.data.WorldData.{WorldData}
 use Rattle.vb_world.specs.World.{front_in, part_in, Sound}
@@ -18,13 +18,13 @@ use Rattle.ep_drill.specs.declared.bench.Bench.{Bench}
 use Rattle.ep_drill.specs.declared.data.BenchData.{BenchData}
 use Rattle.ep_drill.specs.declared.data.CallerData.{CallerData}
 use Rattle.ep_drill.specs.declared.data.CoreData.{CoreData}
-use Rattle.ep_drill.specs.declared.flat.data.FetchedData.{FetchedData}
-use Rattle.ep_drill.specs.declared.flat.data.FoundData.TheVariants as founds
+use Rattle.ep_drill.specs.declared.data.FetchedData.{FetchedData}
+use Rattle.ep_drill.specs.declared.data.FoundData.TheVariants as founds
 use Rattle.ep_model.specs.declared.event.PartName.{PartName}
 use Rattle.ep_drill.specs.Parts.{part_stands}
-use Rattle.ep_drill.specs.declared.flat.data.Step.{Step}
+use Rattle.flat_parts.specs.declared.data.Step.{Step}
 use Rattle.ep_drill.specs.declared.owned.Caller.{Caller}
-use Rattle.ep_drill.specs.Calls.{event_of, noted, AreHome}
+use Rattle.ep_drill.specs.Calls.{event_of, noted, AreHome, KeptBut}
 use Rattle.ep_drill.specs.Callers.{CallerStands, caller_data, next_of, after_step}
 use Rattle.ep_drill.specs.Fetches.{fetched_data}
 use Rattle.ep_drill.specs.Stands.{DeskStands, BatchStands, FetchedStands}
@@ -80,6 +80,7 @@ Turned config number now old new caller after value None = (new ≡ old) × (aft
 Turned config number now old new caller after value (Some step) =
     (call : ℕ × CallData) × (next_of caller ≡ Some call) × Moved config call.0 (event_of number call.1 now caller.prior value step) old new × (after ≡ after_step step caller)
     × ComesTo config (part_in old call.0) (part_in new call.0) call.1 now caller.prior step
+    × KeptBut config (touches_call config call.1) (part_in old call.0) (part_in new call.0)
 
 -- the call is on a vBucket that there is
 abbrev pub IsOn : Config → ℕ × CallData → Type 0

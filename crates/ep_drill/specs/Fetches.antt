@@ -4,15 +4,16 @@ use Rattle.std.specs.FinMap as map
 use Rattle.std.specs.declared.alloc.Global.{Global}
 use Rattle.ep_model.specs.declared.call.Meta.{Meta}
 use Rattle.ep_model.specs.Limits.{IsKey}
+use Rattle.ep_model.specs.World.{Doc}
 use Rattle.ep_model.specs.declared.data.EventData.TheVariants as events
 use Rattle.ep_model.specs.declared.data.FrontData.{FrontData}
 use Rattle.ep_model.specs.declared.event.Ticket.{Ticket}
 use Rattle.ep_model.specs.Front.{with_event}
 use Rattle.kv_keeper.specs.declared.data.DeskData.{DeskData}
 use Rattle.kv_keeper.specs.Content.{Content}
-use Rattle.ep_drill.specs.declared.flat.data.FetchedData.{FetchedData}
-use Rattle.ep_drill.specs.declared.flat.data.FoundData.{FoundData}
-use Rattle.ep_drill.specs.declared.flat.data.FoundData.TheVariants as founds
+use Rattle.ep_drill.specs.declared.data.FetchedData.{FetchedData}
+use Rattle.ep_drill.specs.declared.data.FoundData.{FoundData}
+use Rattle.ep_drill.specs.declared.data.FoundData.TheVariants as founds
 use Rattle.ep_drill.specs.declared.fetched.Fetched.{Fetched}
 use Rattle.ep_drill.specs.declared.fetched.Found.{Found}
 use Rattle.ep_drill.specs.declared.fetched.Found.TheVariants as found
@@ -20,14 +21,15 @@ use Rattle.ep_drill.specs.declared.fetch.Merging.{Merging}
 use Rattle.ep_drill.specs.declared.fetch.Merging.TheVariants as mergings
 use Rattle.ep_drill.specs.declared.part.Part.{Part}
 use Rattle.ep_drill.specs.declared.part.Part.TheVariants as parts
-use Rattle.ep_drill.specs.declared.flat.data.NodeData.{NodeData}
-use Rattle.ep_drill.specs.declared.flat.data.Outcome.{Outcome}
-use Rattle.ep_drill.specs.declared.flat.data.Outcome.TheVariants as outcomes
-use Rattle.ep_drill.specs.declared.flat.data.PlaceData.{PlaceData}
-use Rattle.ep_drill.specs.declared.flat.data.StripeData.{StripeData}
-use Rattle.ep_drill.specs.Nodes.{doc_of, node_at, first_waiting, outcome_at, settled}
-use Rattle.ep_drill.specs.Steps.{restored}
+use Rattle.flat_parts.specs.declared.data.NodeData.{NodeData}
+use Rattle.flat_parts.specs.declared.data.Outcome.{Outcome}
+use Rattle.flat_parts.specs.declared.data.Outcome.TheVariants as outcomes
+use Rattle.flat_parts.specs.declared.data.PlaceData.{PlaceData}
+use Rattle.flat_parts.specs.declared.data.StripeData.{StripeData}
+use Rattle.flat_parts.specs.Nodes.{doc_of, node_at, first_waiting, outcome_at, settled}
+use Rattle.flat_parts.specs.Steps.{restored}
 use Rattle.ep_drill.specs.Stands.{FetchedStands}
+use Rattle.ep_drill.specs.Parts.{Becomes}
 
 -- what was read, without where its bytes lie
 abbrev pub found_data : Found → FoundData
@@ -145,11 +147,26 @@ IsRow founds.Absent = ⊥
 IsRow (founds.Failed fault) = ⊥
 IsRow founds.NoMemory = ⊥
 
+-- a value that was read goes back where the key's node has none
+abbrev pub put_back_value : StripeData → List ℕ → Doc → Option (List ℕ) → StripeData
+put_back_value x key doc None = restored x key doc
+put_back_value x key doc (Some value) = x
+
+abbrev pub put_back_node : StripeData → List ℕ → Doc → Option NodeData → StripeData
+put_back_node x key doc None = x
+put_back_node x key doc (Some node) = put_back_value x key doc node.value
+
+abbrev pub put_back_found : StripeData → List ℕ → FoundData → StripeData
+put_back_found x key (founds.Row doc) = put_back_node x key doc (node_at x.nodes key)
+put_back_found x key founds.Absent = x
+put_back_found x key (founds.Failed fault) = x
+put_back_found x key founds.NoMemory = x
+
 -- A read is stale exactly where nobody waits at its ticket. Else it ends as it says, whoever waits there finds that, and a failure
--- is told. What was read is in memory then.
+-- is told. What was read is in memory then, and nothing else changes in the stripe.
 abbrev pub IsMerged : FrontData → FrontData → Option Part → Option Part → FetchedData → Merging → Type 0
-IsMerged old new part left fetched mergings.Merged = (new ≡ old) × HasPlace part fetched.ticket × HasOutcome left fetched.ticket outcomes.Merged × HasValue left fetched.key × IsRow fetched.found
-IsMerged old new part left fetched mergings.Absent = (new ≡ old) × HasPlace part fetched.ticket × (fetched.found ≡ founds.Absent) × HasOutcome left fetched.ticket outcomes.Absent
+IsMerged old new part left fetched mergings.Merged = (new ≡ old) × HasPlace part fetched.ticket × HasOutcome left fetched.ticket outcomes.Merged × HasValue left fetched.key × IsRow fetched.found × Becomes part left (λ x. settles (put_back_found x fetched.key fetched.found) fetched.ticket.number outcomes.Merged)
+IsMerged old new part left fetched mergings.Absent = (new ≡ old) × HasPlace part fetched.ticket × (fetched.found ≡ founds.Absent) × HasOutcome left fetched.ticket outcomes.Absent × Becomes part left (λ x. settles x fetched.ticket.number outcomes.Absent)
 IsMerged old new part left fetched mergings.Stale = (new ≡ old) × (left ≡ part) × HasNoPlace part fetched.ticket
-IsMerged old new part left fetched mergings.Failed = (fault : ℕ) × (fetched.found ≡ founds.Failed fault) × (new ≡ with_event old (events.ReadFailed fetched.ticket fault)) × HasPlace part fetched.ticket × HasOutcome left fetched.ticket (outcomes.Failed fault)
-IsMerged old new part left fetched mergings.NoMemory = (new ≡ old) × (fetched.found ≡ founds.NoMemory) × HasPlace part fetched.ticket × HasOutcome left fetched.ticket outcomes.NoMemory
+IsMerged old new part left fetched mergings.Failed = (fault : ℕ) × (fetched.found ≡ founds.Failed fault) × (new ≡ with_event old (events.ReadFailed fetched.ticket fault)) × HasPlace part fetched.ticket × HasOutcome left fetched.ticket (outcomes.Failed fault) × Becomes part left (λ x. settles x fetched.ticket.number (outcomes.Failed fault))
+IsMerged old new part left fetched mergings.NoMemory = (new ≡ old) × (fetched.found ≡ founds.NoMemory) × HasPlace part fetched.ticket × HasOutcome left fetched.ticket outcomes.NoMemory × Becomes part left (λ x. settles x fetched.ticket.number outcomes.NoMemory)

@@ -30,11 +30,11 @@ use Rattle.hold_stage.proofs.Later.{world_step, all_append}
 use Rattle.hold_stage.proofs.Legality.{has_more}
 use Rattle.hold_stage.proofs.Bounds.{marked_step, asked_may, waiting_step}
 use Rattle.hold_stage.proofs.Mutations.{mutations_append}
-use Rattle.ep_drill.specs.declared.flat.data.Outcome.{Outcome}
-use Rattle.ep_drill.specs.declared.flat.data.Outcome.TheVariants as outcomes
-use Rattle.ep_drill.specs.declared.flat.data.PlaceData.{PlaceData}
-use Rattle.ep_drill.specs.declared.flat.data.StripeData.{StripeData}
-use Rattle.ep_drill.specs.declared.flat.data.QueueData.{QueueData}
+use Rattle.flat_parts.specs.declared.data.Outcome.{Outcome}
+use Rattle.flat_parts.specs.declared.data.Outcome.TheVariants as outcomes
+use Rattle.flat_parts.specs.declared.data.PlaceData.{PlaceData}
+use Rattle.flat_parts.specs.declared.data.StripeData.{StripeData}
+use Rattle.flat_parts.specs.declared.data.QueueData.{QueueData}
 use Rattle.ep_drill.specs.Stands.{ValueStands, IsGone, IsNoRead, IsAbsent, OutcomeStands, ticket_of, PlaceStands, StripeStands, QueueStands}
 
 -- a document of another stripe isn't this key's

@@ -1,12 +1,6 @@
-pub mod Nodes
-pub mod Steps
 pub mod Stands
-pub mod Fits
-pub mod Flat
-pub mod Looks
 pub mod Keeps
 pub mod Parts
-pub mod Writes
 pub mod Calls
 pub mod Answers
 pub mod Fetches

@@ -22,9 +22,9 @@ use Rattle.ep_drill.specs.declared.data.CallerData.{CallerData}
 use Rattle.ep_drill.specs.declared.data.BenchData.{BenchData}
 use Rattle.ep_drill.specs.declared.data.CoreData.{CoreData}
 use Rattle.ep_drill.specs.declared.fetched.Fetched.{Fetched}
-use Rattle.ep_drill.specs.declared.flat.data.FetchedData.{FetchedData}
-use Rattle.ep_drill.specs.declared.flat.data.StripeData.{StripeData}
-use Rattle.ep_drill.specs.declared.flat.data.QueueData.{QueueData}
+use Rattle.ep_drill.specs.declared.data.FetchedData.{FetchedData}
+use Rattle.flat_parts.specs.declared.data.StripeData.{StripeData}
+use Rattle.flat_parts.specs.declared.data.QueueData.{QueueData}
 use Rattle.ep_drill.specs.declared.part.Part.{Part}
 use Rattle.ep_drill.specs.declared.part.Part.TheVariants as parts
 use Rattle.ep_drill.specs.Calls.{AreHome}

@@ -1,5 +1,5 @@
 -- What each part is to a history, by its name.
-use Rattle.std.specs.Prelude.{◌≡◌, false}
+use Rattle.std.specs.Prelude.{◌≡◌, false, Option, Some, None}
 use Rattle.ep_model.specs.declared.event.PartName.{PartName}
 use Rattle.ep_model.specs.declared.event.PartName.TheVariants.{Stripe, Queue, Desk}
 use Rattle.ep_model.specs.declared.data.EventData.{EventData}
@@ -7,6 +7,7 @@ use Rattle.ep_model.specs.declared.data.FrontData.{FrontData}
 use Rattle.ep_model.specs.Front.{world_of, with_event}
 use Rattle.ep_model.specs.Legal.{May, IsLegal}
 use Rattle.hold_stage.specs.Touches.{touches}
+use Rattle.flat_parts.specs.declared.data.StripeData.{StripeData}
 use Rattle.ep_drill.specs.declared.part.Part.{Part}
 use Rattle.ep_drill.specs.declared.part.Part.TheVariants as parts
 use Rattle.ep_drill.specs.Stands.{StripeStands, QueueStands}
@@ -22,6 +23,13 @@ part_stands Queue f (parts.Desk d) = ⊥
 part_stands Desk f (parts.Stripe x) = ⊥
 part_stands Desk f (parts.Queue q) = ⊥
 part_stands Desk f (parts.Desk d) = d.persisted ≡ (world_of f).persisted
+
+-- a stripe becomes this
+abbrev pub Becomes : Option Part → Option Part → (StripeData → StripeData) → Type 0
+Becomes None new f = ⊥
+Becomes (Some (parts.Stripe x)) new f = new ≡ Some (parts.Stripe (f x))
+Becomes (Some (parts.Queue q)) new f = ⊥
+Becomes (Some (parts.Desk d)) new f = ⊥
 
 -- an event that doesn't touch a part leaves that it stands
 pub part_keeps : (p : PartName) (f : FrontData) (event : EventData) (x : Part) → IsLegal f → May f event → touches f event p ≡ false → part_stands p f x → part_stands p (with_event f event) x

@@ -14,19 +14,19 @@ use Rattle.ep_model.specs.Needs.{key_of}
 use Rattle.ep_model.specs.Front.{begun, world_of, marked}
 use Rattle.ep_model.specs.Legal.{IsSilent, IsUnused, IsBelow, IsNoFault, HasAsked, HasFailed}
 use Rattle.hold_stage.specs.Mutations.{mutations, above, is_waiting}
-use Rattle.ep_drill.specs.declared.flat.data.NodeData.{NodeData}
-use Rattle.ep_drill.specs.declared.flat.data.Outcome.{Outcome}
-use Rattle.ep_drill.specs.declared.flat.data.Outcome.TheVariants.{Waiting, Merged, Absent, Failed, NoMemory}
-use Rattle.ep_drill.specs.declared.flat.data.PlaceData.{PlaceData}
-use Rattle.ep_drill.specs.declared.flat.data.StripeData.{StripeData}
-use Rattle.ep_drill.specs.declared.flat.data.QueueData.{QueueData}
-use Rattle.ep_drill.specs.declared.flat.data.FetchedData.{FetchedData}
-use Rattle.ep_drill.specs.declared.flat.data.FoundData.{FoundData}
-use Rattle.ep_drill.specs.declared.flat.data.FoundData.TheVariants as founds
+use Rattle.flat_parts.specs.declared.data.NodeData.{NodeData}
+use Rattle.flat_parts.specs.declared.data.Outcome.{Outcome}
+use Rattle.flat_parts.specs.declared.data.Outcome.TheVariants.{Waiting, Merged, Absent, Failed, NoMemory}
+use Rattle.flat_parts.specs.declared.data.PlaceData.{PlaceData}
+use Rattle.flat_parts.specs.declared.data.StripeData.{StripeData}
+use Rattle.flat_parts.specs.declared.data.QueueData.{QueueData}
+use Rattle.ep_drill.specs.declared.data.FetchedData.{FetchedData}
+use Rattle.ep_drill.specs.declared.data.FoundData.{FoundData}
+use Rattle.ep_drill.specs.declared.data.FoundData.TheVariants as founds
 use Rattle.kv_keeper.specs.declared.data.BatchData.{BatchData}
 use Rattle.kv_keeper.specs.Batch.{laid}
 use Rattle.kv_keeper.specs.Content.{Content}
-use Rattle.ep_drill.specs.Nodes.{meta_of, node_at}
+use Rattle.flat_parts.specs.Nodes.{meta_of, node_at}
 
 -- A resident value is the document's. A value may be away only where the stripe knows that it is stored, and where the
 -- document isn't deleted.

@@ -2,6 +2,7 @@
 use Rattle.std.specs.Prelude.{◌≡◌, ◌⊎◌, ℕ, ◌^◌, ◌<◌, ◌≤◌, List, [], ◌∷◌, take, slice_get, slice_set, Option, Some, None, IsSome, Result, Ok, Err}
 use Rattle.ep_model.specs.declared.data.CallData.{CallData}
 use Rattle.ep_model.specs.declared.event.PartName.TheVariants.{Stripe}
+use Rattle.hold_stage.specs.Touches.{is_stripe, touches_call}
 use Rattle.vb_world.specs.declared.data.WorldData.{WorldData}
 use Rattle.vb_world.specs.World.{part_in}
 use Rattle.ep_drill.specs.declared.choice.Answer.{Answer}
@@ -12,11 +13,11 @@ use Rattle.ep_drill.specs.declared.choice.Tried.{Tried}
 use Rattle.ep_drill.specs.declared.data.BenchData.{BenchData}
 use Rattle.ep_drill.specs.declared.data.CallerData.{CallerData}
 use Rattle.ep_drill.specs.declared.data.CoreData.{CoreData}
-use Rattle.ep_drill.specs.declared.flat.data.Step.{Step}
+use Rattle.flat_parts.specs.declared.data.Step.{Step}
 use Rattle.ep_drill.specs.declared.part.Part.{Part}
 use Rattle.ep_drill.specs.declared.store.Paged.{Paged}
 use Rattle.ep_drill.specs.Answers.{IsPaged}
-use Rattle.ep_drill.specs.Calls.{event_of}
+use Rattle.ep_drill.specs.Calls.{event_of, KeptBut}
 use Rattle.ep_drill.specs.Callers.{next_of, after_step, tried_of}
 use Rattle.ep_drill.specs.Fetches.{HasWaiting}
 use Rattle.ep_drill.specs.Tries.{ComesTo}
@@ -34,6 +35,7 @@ pub record WasTried (old new : CoreData) (number now : ℕ) (tried : Tried) : Ty
   pub told : tried ≡ tried_of step
   pub moved : Moved old.config call.0 (event_of number call.1 now caller.prior value step) old.world new.world
   pub comes : ComesTo old.config (part_in old.world call.0) (part_in new.world call.0) call.1 now caller.prior step
+  pub kept : KeptBut old.config (touches_call old.config call.1) (part_in old.world call.0) (part_in new.world call.0)
   pub left : new ≡ record old { world = new.world; callers = slice_set old.callers number (after_step step caller) }
 
 -- there is no such caller, its calls are all answered, or the moment is none of a step
@@ -83,6 +85,7 @@ pub record WasPaged (old new : CoreData) (vb stripe : ℕ) (paged : Paged) : Typ
   pub left : new ≡ record old { world = new.world }
   pub moved : Moved old.config vb None old.world new.world
   pub done : IsPaged (part_in old.world vb (Stripe stripe)) (part_in new.world vb (Stripe stripe)) paged
+  pub kept : KeptBut old.config (is_stripe stripe) (part_in old.world vb) (part_in new.world vb)
 
 -- what a page step answers: nothing exactly where there is no such stripe
 abbrev pub IsPagedAt : CoreData → CoreData → ℕ → ℕ → Answer → Type 0
@@ -136,10 +139,15 @@ Ran old new (choice ∷ steps) [] = ⊥
 Ran old new (choice ∷ steps) (answer ∷ said) =
     (next : CoreData) × Stepped old next choice answer × GoesOn old next × Interleaves next × Ran next new steps said
 
+-- Memory was wanting before the first of these steps, or for the one behind the first so many.
+abbrev pub IsWanting : CoreData → List StepChoice → ℕ → Type 0
+IsWanting core steps made = (made ≡ 0) ⊎ ((choice : StepChoice) × (slice_get steps made ≡ Some choice) × TakesMemory core choice)
+
 -- Some of these steps were made, from the first on, and then memory was wanting.
 pub record RanSome (old new : CoreData) (steps : List StepChoice) : Type 0 where
   pub made : ℕ
   pub said : List Answer
   pub last : CoreData
   pub ran : Ran old last (take made steps) said
+  pub wanting : IsWanting last steps made
   pub spares : Spares last new

@@ -9,12 +9,12 @@ use Rattle.ep_model.specs.declared.event.PartName.TheVariants.{Stripe, Queue}
 use Rattle.ep_model.specs.declared.event.Ticket.{Ticket}
 use Rattle.ep_model.specs.Config.{fit_of}
 use Rattle.ep_model.specs.Stripes.{stripe_of}
-use Rattle.ep_drill.specs.declared.flat.data.QueueData.{QueueData}
-use Rattle.ep_drill.specs.declared.flat.data.Step.{Step}
-use Rattle.ep_drill.specs.declared.flat.data.StripeData.{StripeData}
+use Rattle.flat_parts.specs.declared.data.QueueData.{QueueData}
+use Rattle.flat_parts.specs.declared.data.Step.{Step}
+use Rattle.flat_parts.specs.declared.data.StripeData.{StripeData}
 use Rattle.ep_drill.specs.declared.part.Part.{Part}
 use Rattle.ep_drill.specs.declared.part.Part.TheVariants as parts
-use Rattle.ep_drill.specs.Steps.{read_step, write_step}
+use Rattle.flat_parts.specs.Steps.{read_step, write_step}
 
 -- a Get, by its key's stripe
 pub record Gets (stripes : ℕ) (old new : PartName → Option Part) (prior : Option Ticket) (key : List ℕ) (now : ℕ) (step : Step) : Type 0 where

@@ -1,10 +1,12 @@
 -- What each kind of work at a vBucket's bench answers, and what it makes of the world and of the bench.
-use Rattle.std.specs.Prelude.{◌≡◌, ℕ, Bool, List, Option, Some, None, IfSome, slice_get, slice_set, is_some}
+use Rattle.std.specs.Prelude.{◌≡◌, ℕ, Bool, ◌||◌, List, Option, Some, None, IfSome, slice_get, slice_set, is_some}
 use Rattle.ep_model.specs.declared.config.Config.{Config}
 use Rattle.ep_model.specs.declared.data.EventData.{EventData}
 use Rattle.ep_model.specs.declared.data.EventData.TheVariants as events
+use Rattle.ep_model.specs.declared.event.PartName.{PartName}
 use Rattle.ep_model.specs.declared.event.PartName.TheVariants.{Stripe}
 use Rattle.ep_model.specs.declared.event.Ticket.{Ticket}
+use Rattle.hold_stage.specs.Touches.{is_stripe, is_queue, is_desk}
 use Rattle.kv_keeper.specs.declared.data.BatchData.{BatchData}
 use Rattle.kv_keeper.specs.declared.data.DeskData.{DeskData}
 use Rattle.kv_keeper.specs.Kept.{Rose}
@@ -17,9 +19,9 @@ use Rattle.ep_drill.specs.declared.data.BenchData.{BenchData}
 use Rattle.ep_drill.specs.declared.fetch.Merging.{Merging}
 use Rattle.ep_drill.specs.declared.fetch.Merging.TheVariants as mergings
 use Rattle.ep_drill.specs.declared.fetched.Fetched.{Fetched}
-use Rattle.ep_drill.specs.declared.flat.data.FetchedData.{FetchedData}
-use Rattle.ep_drill.specs.declared.flat.data.FoundData.{FoundData}
-use Rattle.ep_drill.specs.declared.flat.data.FoundData.TheVariants as founds
+use Rattle.ep_drill.specs.declared.data.FetchedData.{FetchedData}
+use Rattle.ep_drill.specs.declared.data.FoundData.{FoundData}
+use Rattle.ep_drill.specs.declared.data.FoundData.TheVariants as founds
 use Rattle.ep_drill.specs.declared.part.Part.{Part}
 use Rattle.ep_drill.specs.declared.store.Flushed.{Flushed}
 use Rattle.ep_drill.specs.declared.store.Flushed.TheVariants as flushes
@@ -27,6 +29,8 @@ use Rattle.ep_drill.specs.declared.store.Marking.{Marking}
 use Rattle.ep_drill.specs.declared.store.Marking.TheVariants as markings
 use Rattle.ep_drill.specs.Answers.{IsMarked, IsTaken, IsFlushed, OnFailed}
 use Rattle.ep_drill.specs.Fetches.{fetched_data, found_data, DeskRead, IsMerged, IsRead, OnFault, ReadsOldest}
+use Rattle.ep_drill.specs.Calls.{KeptBut}
+use Rattle.ep_drill.specs.Parts.{Becomes}
 use Rattle.ep_drill.specs.Core.{Moved, count_of}
 
 -- all is as it was
@@ -39,6 +43,7 @@ pub record WasTaken (config : Config) (vb number : ℕ) (old new : WorldData Par
   pub batch : Option BatchData
   pub left : after ≡ record bench { batch = batch }
   pub moved : Moved config vb None old new
+  pub kept : (p : PartName) → part_in new vb p ≡ part_in old vb p
   pub taken : IsTaken (front_in old vb) bench.desk.stored batch
   pub count : number ≡ count_of batch
 
@@ -47,6 +52,7 @@ pub record WasDropped (config : Config) (vb : ℕ) (old new : WorldData Part) (b
   pub sure : bench.desk.doubt ≡ None
   pub left : after ≡ record bench { batch = None }
   pub moved : Moved config vb None old new
+  pub kept : (p : PartName) → part_in new vb p ≡ part_in old vb p
 
 -- no batch is taken where it is in doubt what the store holds
 abbrev pub Takes : Config → ℕ → Answer → WorldData Part → WorldData Part → BenchData → BenchData → Type 0
@@ -80,6 +86,7 @@ pub record WasFlushed (config : Config) (vb : ℕ) (flushed : Flushed) (old new 
   pub taken : bench.batch ≡ Some batch
   pub left : after ≡ record bench { desk = desk; batch = batch_after batch flushed }
   pub moved : Moved config vb (persisted_by batch flushed) old new
+  pub kept : KeptBut config (λ p. is_queue p || is_desk p) (part_in old vb) (part_in new vb)
   pub done : IsFlushed (front_in old vb) (front_in new vb) (Some desk.keeper.content) bench.desk desk batch flushed
   pub rose : OnFailed flushed (Rose bench.desk.keeper.faults desk.keeper.faults)
 
@@ -104,6 +111,8 @@ pub record WasMarked (config : Config) (vb stripe : ℕ) (marking : Marking) (ol
   pub left : after ≡ bench
   pub moved : Moved config vb (marked_by stripe bench.desk.noted marking) old new
   pub told : IsMarked (front_in old vb) (front_in new vb) stripe bench.desk.noted marking
+  pub raised : Becomes (part_in old vb (Stripe stripe)) (part_in new vb (Stripe stripe)) (λ x. record x { mark = bench.desk.noted })
+  pub kept : KeptBut config (is_stripe stripe) (part_in old vb) (part_in new vb)
 
 abbrev pub Marks : Config → ℕ → ℕ → Answer → WorldData Part → WorldData Part → BenchData → BenchData → Type 0
 Marks config vb stripe answers.Nothing old new bench after = ⊥
@@ -129,6 +138,7 @@ pub record WasFetched (config : Config) (vb stripe : ℕ) (waited : Bool) (old n
   pub oldest : ReadsOldest (part_in old vb (Stripe stripe)) read
   pub left : after ≡ record bench { desk = desk; reads = reads_after bench.reads stripe read }
   pub moved : Moved config vb None old new
+  pub kept : (p : PartName) → part_in new vb p ≡ part_in old vb p
   pub store : DeskRead bench.desk.keeper.content (Some desk.keeper.content) bench.desk desk
   pub stands : IsRead (front_in old vb) stripe bench.desk.read_faults desk.read_faults read
   pub rose : IfSome read (λ fetched. OnFault (found_data fetched.found) (Rose bench.desk.keeper.faults desk.keeper.faults))
@@ -166,6 +176,7 @@ pub record WasMerged (config : Config) (vb stripe : ℕ) (merging : Merging) (ol
   pub here : fetched.ticket.stripe ≡ stripe
   pub left : after ≡ record bench { reads = slice_set bench.reads stripe None }
   pub moved : Moved config vb (failed_by fetched merging) old new
+  pub kept : KeptBut config (is_stripe stripe) (part_in old vb) (part_in new vb)
   pub done : IsMerged (front_in old vb) (front_in new vb) (part_in old vb (Stripe fetched.ticket.stripe)) (part_in new vb (Stripe fetched.ticket.stripe)) fetched merging
 
 -- nothing is merged exactly where the stripe has no read

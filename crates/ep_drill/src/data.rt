@@ -1,7 +1,6 @@
 // What clauses see of a core: plain data. No value of these types is made.
-use crate::flat::data::FetchedData;
 use crate::part::Part;
-use ep_model::{CallData, Config, Ticket};
+use ep_model::{CallData, Config, DocData, Ticket};
 use kv_keeper::{BatchData, DeskData, MemoryKeeper};
 use std::collections::LinkedList;
 use vb_world::WorldData;
@@ -28,4 +27,20 @@ pub struct CoreData {
     pub world: WorldData<Part>,
     pub benches: LinkedList<BenchData>,
     pub callers: LinkedList<CallerData>,
+}
+
+/// What a read of the store found.
+pub enum FoundData {
+    Row(DocData),
+    Absent,
+    /// The store failed, the desk's count of read faults then being this one.
+    Failed(u64),
+    NoMemory,
+}
+
+/// A read that was made and isn't merged yet.
+pub struct FetchedData {
+    pub ticket: Ticket,
+    pub key: LinkedList<u8>,
+    pub found: FoundData,
 }

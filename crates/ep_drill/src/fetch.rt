@@ -6,23 +6,21 @@ ghost use Rattle.ep_model.specs.declared.event.PartName.TheVariants.{Stripe};
 ghost use Rattle.ep_model.specs.declared.limits.TheConstants.{MAX_VALUE};
 ghost use Rattle.ep_model.specs.Legal.{IsLegal};
 ghost use Rattle.ep_model.specs.Limits.{IsKey};
-ghost use Rattle.hold_stage.specs.Touches.{there, same_part};
+ghost use Rattle.hold_stage.specs.Touches.{there, is_stripe, same_part};
 ghost use Rattle.hold_stage.specs.Grows.{Same, IsNone, but_this};
 ghost use Rattle.kv_keeper.specs.Content.{Content};
 ghost use Rattle.kv_keeper.specs.Desk.{IsSure};
 ghost use Rattle.kv_keeper.specs.Kept.{Rose};
-ghost use Rattle.ep_drill.specs.Nodes.{first_waiting};
+ghost use Rattle.flat_parts.specs.Nodes.{first_waiting};
 ghost use Rattle.ep_drill.specs.Stands.{StripeStands, DeskStands, FetchedStands};
-ghost use Rattle.ep_drill.specs.Calls.{AreHome, HasRoom};
+ghost use Rattle.ep_drill.specs.Calls.{AreHome, HasRoom, KeptBut};
 ghost use Rattle.ep_drill.specs.Fetches.{found_data, fetched_data, settles, IsOldest, IsFoundIn, IsCounted, IsBack, IsRead, IsMerged, DeskRead, ReadsOldest, HasWaiting, OnFault};
 
 pub use crate::fetched::{Fetched, Found, Row};
-use crate::flat::data::Outcome;
-use crate::flat::node::Found as Look;
-use crate::flat::stripe::FlatStripe;
 use crate::hold::{take_desk, take_stripe};
 use crate::part::Part;
 use ep_model::{Event, NoMemory, Out, PartName, Ticket};
+use flat_parts::{FlatStripe, Found as Look, Outcome};
 use hold_stage::Stage;
 use kv_keeper::{Desk, Keeper, Kept};
 use std::alloc::Global;
@@ -165,6 +163,7 @@ pub(crate) fn fetch_merge<S: Stage<Part = Part>>(stage: &mut S, fetched: Fetched
     requires room { HasRoom 0 (S.covers stage.old) }
     ensures stays { (S.lent stage.new ≡ S.lent stage.old) × (S.fixed stage.new ≡ S.fixed stage.old) × (S.number stage.new ≡ S.number stage.old) × (S.is_desk stage.new ≡ S.is_desk stage.old) × (S.is_telling stage.new ≡ S.is_telling stage.old) }
     ensures merged { IsMerged (S.front stage.old) (S.front stage.new) (S.tells stage.old (Stripe fetched.ticket.stripe)) (S.tells stage.new (Stripe fetched.ticket.stripe)) (fetched_data fetched) result }
+    ensures kept { KeptBut (S.front stage.old).config (is_stripe fetched.ticket.stripe) (S.tells stage.old) (S.tells stage.new) }
     ensures free { Same (S.holds stage.new) (S.holds stage.old) }
     ensures home { AreHome (S.front stage.old).config (S.tells stage.new) }
 {

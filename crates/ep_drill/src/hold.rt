@@ -8,10 +8,9 @@ ghost use Rattle.hold_stage.specs.Touches.{there, same_part};
 ghost use Rattle.hold_stage.specs.Grows.{Same, and_this};
 ghost use Rattle.ep_drill.specs.Stands.{StripeStands, QueueStands};
 
-use crate::flat::queue::FlatQueue;
-use crate::flat::stripe::FlatStripe;
 use crate::part::{DeskPart, Part};
 use ep_model::PartName;
+use flat_parts::{FlatQueue, FlatStripe};
 use hold_stage::Stage;
 
 /// Takes a stripe.

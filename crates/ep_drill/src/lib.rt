@@ -8,7 +8,6 @@ mod data;
 mod engine;
 mod fetch;
 mod fetched;
-mod flat;
 mod hold;
 mod open;
 mod owned;
@@ -22,13 +21,9 @@ mod worked;
 
 pub use bench::Bench;
 pub use choice::{Answer, StepChoice, Tried};
-pub use data::{BenchData, CallerData, CoreData};
+pub use data::{BenchData, CallerData, CoreData, FetchedData, FoundData};
 pub use engine::{Core, run_steps};
 pub use fetch::Merging;
-pub use flat::data::{
-    FetchedData, FoundData, NodeData, Outcome, PageData, PlaceData, QueueData, ReadData, Step,
-    StripeData, WriteData,
-};
 pub use owned::{Caller, Loaded, OwnedCall, OwnedKey, OwnedSet};
 pub use part::{DeskPart, Part};
 pub use store::{Flushed, Marking, Paged};

@@ -12,11 +12,10 @@ ghost use Rattle.ep_drill.specs.Parts.{part_stands};
 ghost use Rattle.ep_drill.specs.Calls.{AreHome, HasRoom};
 ghost use Rattle.ep_drill.specs.Opens.{bare_stripes, bare_list, is_below, IsNew, Added};
 
-use crate::flat::queue::FlatQueue;
-use crate::flat::stripe::FlatStripe;
 use crate::hold::{take_desk, take_queue, take_stripe};
 use crate::part::{DeskPart, Part};
 use ep_model::{Config, Event, NoMemory, PartName};
+use flat_parts::{FlatQueue, FlatStripe};
 use hold_stage::Stage;
 use std::alloc::Global;
 use std::marker::Brand;

@@ -2,8 +2,7 @@
 ghost use Rattle.std.specs.Prelude.{◌≡◌};
 ghost use Rattle.ep_drill.specs.Parts.{part_stands, part_keeps};
 
-use crate::flat::queue::FlatQueue;
-use crate::flat::stripe::FlatStripe;
+use flat_parts::{FlatQueue, FlatStripe};
 use hold_stage::Stands;
 
 /// What whoever writes to the store takes along: the number up to which that is told to have happened.

@@ -1,27 +1,28 @@
 // What the store's side does to the parts of a vBucket: batches, marks and the pager.
-ghost use Rattle.std.specs.Prelude.{◌≡◌, ◌⊎◌, ◌+◌, ◌-◌, ◌^◌, ◌<◌, ◌≤◌, ℕ, true, false, if◌then◌else◌, [], length, min, Some, None, IfSome, IfOk, OnOk, OnErr};
+ghost use Rattle.std.specs.Prelude.{◌≡◌, ◌⊎◌, ◌+◌, ◌-◌, ◌^◌, ◌<◌, ◌≤◌, ◌||◌, ℕ, true, false, if◌then◌else◌, [], length, min, Some, None, IfSome, IfOk, OnOk, OnErr};
 ghost use Rattle.ep_model.specs.declared.data.EventData.TheVariants.{Persisted as PersistedData, Marked as MarkedData};
 ghost use Rattle.ep_model.specs.declared.event.PartName.{PartName};
 ghost use Rattle.ep_model.specs.declared.event.PartName.TheVariants.{Stripe, Queue, Desk as DeskName};
 ghost use Rattle.ep_model.specs.Front.{world_of, with_event};
 ghost use Rattle.ep_model.specs.Legal.{May, IsLegal};
 ghost use Rattle.ep_model.specs.World.{Docs};
-ghost use Rattle.hold_stage.specs.Touches.{there};
+ghost use Rattle.hold_stage.specs.Touches.{there, is_stripe, is_queue, is_desk};
 ghost use Rattle.hold_stage.specs.Grows.{Same, IsNone};
 ghost use Rattle.hold_stage.specs.Mutations.{laid_on};
 ghost use Rattle.kv_keeper.specs.Batch.{laid, AreWithin};
 ghost use Rattle.kv_keeper.specs.Content.{Content};
 ghost use Rattle.kv_keeper.specs.Desk.{IsSure};
 ghost use Rattle.kv_keeper.specs.Kept.{Rose};
-ghost use Rattle.ep_drill.specs.Steps.{page_step};
+ghost use Rattle.flat_parts.specs.Steps.{page_step};
 ghost use Rattle.ep_drill.specs.Stands.{DeskStands, BatchStands};
-ghost use Rattle.ep_drill.specs.Calls.{AreHome, HasRoom};
-ghost use Rattle.ep_drill.specs.Answers.{IsMarked, IsPaged, IsTaken, IsFlushed, OnFailed};
+ghost use Rattle.ep_drill.specs.Calls.{AreHome, HasRoom, KeptBut};
+ghost use Rattle.ep_drill.specs.Parts.{Becomes};
+ghost use Rattle.ep_drill.specs.Answers.{rows_of, IsMarked, IsPaged, IsTaken, IsFlushed, OnFailed};
 
-use crate::flat::queue::FlatQueue;
 use crate::hold::{take_desk, take_queue, take_stripe};
 use crate::part::Part;
 use ep_model::{Event, NoMemory, PartName};
+use flat_parts::FlatQueue;
 use hold_stage::Stage;
 use kv_keeper::{Batch, Desk, Keeper, Kept, MemoryKeeper, StoreState};
 use std::alloc::Global;
@@ -72,6 +73,8 @@ pub(crate) fn mark_once<S: Stage<Part = Part>, K: Keeper>(
     requires room { HasRoom 0 (S.covers stage.old) }
     ensures stays { (S.lent stage.new ≡ S.lent stage.old) × (S.fixed stage.new ≡ S.fixed stage.old) × (S.number stage.new ≡ S.number stage.old) × (S.is_desk stage.new ≡ S.is_desk stage.old) × (S.is_telling stage.new ≡ S.is_telling stage.old) }
     ensures front { IsMarked (S.front stage.old) (S.front stage.new) stripe desk.now.noted result }
+    ensures raised { Becomes (S.tells stage.old (Stripe stripe)) (S.tells stage.new (Stripe stripe)) (λ x. record x { mark = desk.now.noted }) }
+    ensures kept { KeptBut (S.front stage.old).config (is_stripe stripe) (S.tells stage.old) (S.tells stage.new) }
     ensures free { Same (S.holds stage.new) (S.holds stage.old) }
     ensures home { AreHome (S.front stage.old).config (S.tells stage.new) }
 {
@@ -99,6 +102,7 @@ pub(crate) fn page_once<S: Stage<Part = Part>>(stage: &mut S, stripe: u16) -> Pa
     ensures stays { (S.lent stage.new ≡ S.lent stage.old) × (S.fixed stage.new ≡ S.fixed stage.old) × (S.number stage.new ≡ S.number stage.old) × (S.is_desk stage.new ≡ S.is_desk stage.old) × (S.is_telling stage.new ≡ S.is_telling stage.old) }
     ensures front { S.front stage.new ≡ S.front stage.old }
     ensures paged { IsPaged (S.tells stage.old (Stripe stripe)) (S.tells stage.new (Stripe stripe)) result }
+    ensures kept { KeptBut (S.front stage.old).config (is_stripe stripe) (S.tells stage.old) (S.tells stage.new) }
     ensures free { Same (S.holds stage.new) (S.holds stage.old) }
     ensures home { AreHome (S.front stage.old).config (S.tells stage.new) }
 {
@@ -110,6 +114,7 @@ pub(crate) fn page_once<S: Stage<Part = Part>>(stage: &mut S, stripe: u16) -> Pa
 
 // Puts a queue's mutations into a batch, each in place of an earlier one of its key.
 fn fill(queue: &FlatQueue, batch: &mut Batch) -> Result<(), NoMemory>
+    ensures rows { OnOk result (batch.new.rows ≡ rows_of batch.old.rows queue.now.items) }
     ensures laid { OnOk result ((docs : Docs) → laid batch.new.rows docs ≡ laid_on (laid batch.old.rows docs) queue.now.items) }
     ensures to { batch.new.to ≡ batch.old.to }
     ensures maxcas { batch.new.maxcas ≡ batch.old.maxcas }
@@ -136,6 +141,7 @@ pub(crate) fn take_batch<S: Stage<Part = Part>, K: Keeper>(
     ensures stays { (S.lent stage.new ≡ S.lent stage.old) × (S.fixed stage.new ≡ S.fixed stage.old) × (S.number stage.new ≡ S.number stage.old) × (S.is_desk stage.new ≡ S.is_desk stage.old) × (S.is_telling stage.new ≡ S.is_telling stage.old) }
     ensures front { S.front stage.new ≡ S.front stage.old }
     ensures taken { IfOk result (IsTaken (S.front stage.old) desk.now.stored) }
+    ensures parts { (p : PartName) → there (S.front stage.old).config p ≡ true → S.tells stage.new p ≡ S.tells stage.old p }
     ensures free { Same (S.holds stage.new) (S.holds stage.old) }
     ensures home { AreHome (S.front stage.old).config (S.tells stage.new) }
 {
@@ -174,6 +180,7 @@ pub(crate) fn commit_batch<S: Stage<Part = Part>>(
     ensures stays { (S.lent stage.new ≡ S.lent stage.old) × (S.fixed stage.new ≡ S.fixed stage.old) × (S.number stage.new ≡ S.number stage.old) × (S.is_desk stage.new ≡ S.is_desk stage.old) × (S.is_telling stage.new ≡ S.is_telling stage.old) }
     ensures flushed { IsFlushed (S.front stage.old) (S.front stage.new) (Some desk.new.keeper.content) desk.old desk.new batch.now result }
     ensures rose { OnFailed result (Rose desk.old.keeper.faults desk.new.keeper.faults) }
+    ensures kept { KeptBut (S.front stage.old).config (λ p. is_queue p || is_desk p) (S.tells stage.old) (S.tells stage.new) }
     ensures free { Same (S.holds stage.new) (S.holds stage.old) }
     ensures home { AreHome (S.front stage.old).config (S.tells stage.new) }
 {

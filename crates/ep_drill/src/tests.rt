@@ -224,6 +224,40 @@ fn a_failed_read_is_a_temporary_failure(rt: HostRuntime) -> Result<(), Fail> {
 }
 
 #[test]
+fn a_batch_takes_the_place_of_one_that_is_not_committed(rt: HostRuntime) -> Result<(), Fail> {
+    let alloc = rt.alloc();
+    let mut core = core_of(alloc, &[])?;
+    load_set(alloc, &mut core, 0, b"a", b"1")?;
+    load_set(alloc, &mut core, 0, b"b", b"2")?;
+    let steps = [
+        front(0),
+        TAKE,
+        front(0),
+        TAKE,
+        COMMIT,
+        COMMIT,
+        TAKE,
+        COMMIT,
+        MARK,
+        MARK,
+    ];
+    let wanted = [
+        Seen::Status(0x00),
+        Seen::Other(Answer::Took(1)),
+        Seen::Status(0x00),
+        Seen::Other(Answer::Took(2)),
+        Seen::Other(Answer::Flushed(Flushed::Stored(2))),
+        Seen::Other(Answer::Nothing),
+        Seen::Other(Answer::Took(0)),
+        Seen::Other(Answer::Nothing),
+        Seen::Other(Answer::Marked(Marking::Raised(2))),
+        Seen::Other(Answer::Marked(Marking::Idle)),
+    ];
+    expect(&rt, alloc, &mut core, &steps, &wanted)?;
+    Ok(())
+}
+
+#[test]
 fn steps_out_of_range_do_nothing(rt: HostRuntime) -> Result<(), Fail> {
     let alloc = rt.alloc();
     let mut core = core_of(alloc, &[])?;

@@ -10,17 +10,17 @@ ghost use Rattle.ep_model.specs.Config.{fit_of};
 ghost use Rattle.ep_model.specs.History.{call_data};
 ghost use Rattle.ep_model.specs.Legal.{May, IsLegal};
 ghost use Rattle.ep_model.specs.Limits.{IsKey, IsValue, IsWithin};
-ghost use Rattle.hold_stage.specs.Touches.{there, bytes_of};
+ghost use Rattle.hold_stage.specs.Touches.{there, touches_call, bytes_of};
 ghost use Rattle.hold_stage.specs.Grows.{Same, IsNone, Covered, IsOwn};
 ghost use Rattle.ep_drill.specs.Stands.{PriorsStand};
-ghost use Rattle.ep_drill.specs.Calls.{is_prior, event_of, noted, AreHome, HasRoom};
+ghost use Rattle.ep_drill.specs.Calls.{is_prior, event_of, noted, AreHome, HasRoom, KeptBut};
 ghost use Rattle.ep_drill.specs.Tries.{Gets, Sets};
 
-use crate::flat::data::Step;
-use crate::flat::write::write;
 use crate::hold::{take_queue, take_stripe};
 use crate::part::Part;
 use ep_model::{Call, Config, Event, NoMemory, Out, PartName, StoreKind, Ticket, stripe_of};
+use flat_parts::Step;
+use flat_parts::write::write;
 use hold_stage::Stage;
 use std::alloc::Global;
 
@@ -108,6 +108,7 @@ pub(crate) fn try_get<S: Stage<Part = Part>>(
     ensures stays { (S.lent stage.new ≡ S.lent stage.old) × (S.fixed stage.new ≡ S.fixed stage.old) × (S.number stage.new ≡ S.number stage.old) × (S.is_desk stage.new ≡ S.is_desk stage.old) × (S.is_telling stage.new ≡ S.is_telling stage.old) }
     ensures front { IfOk result (λ step. S.front stage.new ≡ noted (S.front stage.old) (event_of (S.number stage.old) (GetData key.now) now prior value.new.bytes step)) }
     ensures comes { IfOk result (Gets stripes (S.tells stage.old) (S.tells stage.new) prior key.now now) }
+    ensures kept { KeptBut (S.front stage.old).config (touches_call (S.front stage.old).config (GetData key.now)) (S.tells stage.old) (S.tells stage.new) }
     ensures err { OnErr result (S.front stage.new ≡ S.front stage.old) }
     ensures parts { OnErr result ((p : PartName) → there (S.front stage.old).config p ≡ true → S.tells stage.new p ≡ S.tells stage.old p) }
     ensures free { Same (S.holds stage.new) (S.holds stage.old) }
@@ -153,6 +154,7 @@ pub(crate) fn try_set<S: Stage<Part = Part>>(
     ensures stays { (S.lent stage.new ≡ S.lent stage.old) × (S.fixed stage.new ≡ S.fixed stage.old) × (S.number stage.new ≡ S.number stage.old) × (S.is_desk stage.new ≡ S.is_desk stage.old) × (S.is_telling stage.new ≡ S.is_telling stage.old) }
     ensures front { IfOk result (λ step. S.front stage.new ≡ noted (S.front stage.old) (event_of (S.number stage.old) (StoreData SetKind key.now value.now flags expiration cas) now prior [] step)) }
     ensures comes { IfOk result (Sets config.now.stripes (fit_of config.now) (S.tells stage.old) (S.tells stage.new) prior key.now value.now flags expiration cas now) }
+    ensures kept { KeptBut config.now (touches_call config.now (StoreData SetKind key.now value.now flags expiration cas)) (S.tells stage.old) (S.tells stage.new) }
     ensures err { OnErr result (S.front stage.new ≡ S.front stage.old) }
     ensures parts { OnErr result ((p : PartName) → there (S.front stage.old).config p ≡ true → S.tells stage.new p ≡ S.tells stage.old p) }
     ensures free { Same (S.holds stage.new) (S.holds stage.old) }

@@ -9,11 +9,11 @@ ghost use Rattle.ep_drill.specs.Core.{IsOn, Ready, Rested, Turned};
 ghost use Rattle.ep_drill.specs.Stepped.{answer_of};
 
 use crate::choice::{Answer, Tried};
-use crate::flat::data::Step;
 use crate::owned::Caller;
 use crate::part::Part;
 use crate::worked::try_loaded;
 use ep_model::{Cause, Config, NoMemory, Out, Reply};
+use flat_parts::Step;
 use std::alloc::Global;
 use vb_world::World;
 

@@ -7,10 +7,11 @@ ghost use Rattle.ep_model.specs.declared.limits.TheConstants.{MAX_VALUE};
 ghost use Rattle.ep_model.specs.Config.{fit_of};
 ghost use Rattle.ep_model.specs.Front.{world_of};
 ghost use Rattle.ep_model.specs.Limits.{IsKey, IsValue};
+ghost use Rattle.hold_stage.specs.Touches.{is_stripe, touches_call};
 ghost use Rattle.vb_world.specs.World.{front_in, part_in, Sound};
 ghost use Rattle.ep_drill.specs.Parts.{part_stands};
 ghost use Rattle.ep_drill.specs.Stands.{PriorsStand};
-ghost use Rattle.ep_drill.specs.Calls.{event_of};
+ghost use Rattle.ep_drill.specs.Calls.{event_of, KeptBut};
 ghost use Rattle.ep_drill.specs.Answers.{IsPaged};
 ghost use Rattle.ep_drill.specs.Callers.{owned_data};
 ghost use Rattle.ep_drill.specs.Core.{bench_data, BenchStands, Ready, Moved, Rested, Worked};
@@ -19,12 +20,12 @@ ghost use Rattle.ep_drill.specs.Works.{Marks};
 
 use crate::bench::Bench;
 use crate::choice::Answer;
-use crate::flat::data::Step;
 use crate::owned::{Loaded, OwnedCall, OwnedKey, OwnedSet};
 use crate::part::Part;
 use crate::store::{Paged, mark_once, page_once};
 use crate::tried::{EVENT_BYTES, try_get, try_set};
 use ep_model::{Config, NoMemory, Out, Ticket};
+use flat_parts::Step;
 use std::alloc::Global;
 use vb_world::World;
 
@@ -49,6 +50,7 @@ fn get_at(
     requires value { (value.old.bytes ≡ []) × (value.old.spare ≡ MAX_VALUE) }
     ensures ok { IfOk result (λ step. Moved config.now vb (event_of number (GetData key.now.bytes.items) now prior value.new.bytes step) world.old world.new) }
     ensures comes { IfOk result (Gets config.now.stripes (part_in world.old vb) (part_in world.new vb) prior key.now.bytes.items now) }
+    ensures kept { KeptBut config.now (touches_call config.now (GetData key.now.bytes.items)) (part_in world.old vb) (part_in world.new vb) }
     ensures err { OnErr result (Rested config.now world.old world.new) }
     ensures sound { Sound part_stands world.new }
     ensures value { value.new.spare + length value.new.bytes ≡ MAX_VALUE }
@@ -86,6 +88,7 @@ fn set_at(
     requires moment { now < 2 ^ 62 }
     ensures ok { IfOk result (λ step. Moved config.now vb (event_of number (StoreData SetKind call.now.key.bytes.items call.now.value.items call.now.flags call.now.expiration call.now.cas) now prior [] step) world.old world.new) }
     ensures comes { IfOk result (Sets config.now.stripes (fit_of config.now) (part_in world.old vb) (part_in world.new vb) prior call.now.key.bytes.items call.now.value.items call.now.flags call.now.expiration call.now.cas now) }
+    ensures kept { KeptBut config.now (touches_call config.now (StoreData SetKind call.now.key.bytes.items call.now.value.items call.now.flags call.now.expiration call.now.cas)) (part_in world.old vb) (part_in world.new vb) }
     ensures err { OnErr result (Rested config.now world.old world.new) }
     ensures sound { Sound part_stands world.new }
 {
@@ -128,6 +131,7 @@ pub(crate) fn try_loaded(
     requires value { (value.old.bytes ≡ []) × (value.old.spare ≡ MAX_VALUE) }
     ensures ok { IfOk result (λ step. Moved config.now loaded.now.vb (event_of number (owned_data loaded.now.call) now prior value.new.bytes step) world.old world.new) }
     ensures comes { IfOk result (ComesTo config.now (part_in world.old loaded.now.vb) (part_in world.new loaded.now.vb) (owned_data loaded.now.call) now prior) }
+    ensures kept { KeptBut config.now (touches_call config.now (owned_data loaded.now.call)) (part_in world.old loaded.now.vb) (part_in world.new loaded.now.vb) }
     ensures err { OnErr result (Rested config.now world.old world.new) }
     ensures sound { Sound part_stands world.new }
     ensures value { value.new.spare + length value.new.bytes ≡ MAX_VALUE }
@@ -172,6 +176,7 @@ pub(crate) fn page_at(config: &Config, world: &mut World<Part>, vb: u16, stripe:
     requires vb { vb < config.now.vbuckets }
     requires stripe { stripe < config.now.stripes }
     ensures paged { IsPaged (part_in world.old vb (Stripe stripe)) (part_in world.new vb (Stripe stripe)) result }
+    ensures kept { KeptBut config.now (is_stripe stripe) (part_in world.old vb) (part_in world.new vb) }
     ensures worked { Moved config.now vb None world.old world.new }
     ensures sound { Sound part_stands world.new }
 {

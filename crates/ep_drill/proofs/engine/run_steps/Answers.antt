@@ -1,7 +1,7 @@
 use Rattle.std.proofs.Common.{rules, sym, subst, List, ◌+◌, take}
 use Rattle.ep_drill.specs.declared.choice.Answer.{Answer}
 use Rattle.ep_drill.specs.Stepped.{Ran}
-use Rattle.ep_drill.proofs.SteppedLemmas.{ran_next}
+use Rattle.ep_drill.proofs.SteppedLemmas.{ran_next, ran_some}
 use Rattle.ep_drill.proofs.TurnLemmas.{goes_on_then}
 use Rattle.ep_drill.proofs.engine.run_steps.Goals as goal
 
@@ -16,3 +16,8 @@ loop-choice-preserved c =
       count = search rules;
       room = search rules;
     }
+
+pub returns-in-Err-clause-err : goal.returns-in-Err-clause-err
+returns-in-Err-clause-err c =
+    let l = c.loop-choice in
+    ran_some c.args.core.now l.core c.step.new.self c.args.steps.now l.answers.items l.choice-index _ c.loop-choice-test.true l.invariant.ran c.in-Err.ensures.err

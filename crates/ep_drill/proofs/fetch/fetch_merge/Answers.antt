@@ -3,10 +3,10 @@ use Rattle.ep_model.specs.declared.event.PartName.TheVariants.{Stripe}
 use Rattle.ep_model.specs.declared.data.EventData.TheVariants as events
 use Rattle.ep_model.specs.declared.data.FrontData.{FrontData}
 use Rattle.ep_model.specs.Front.{with_event}
-use Rattle.ep_drill.specs.declared.flat.data.Outcome.TheVariants as outcomes
-use Rattle.ep_drill.specs.declared.flat.data.FoundData.{FoundData}
+use Rattle.flat_parts.specs.declared.data.Outcome.TheVariants as outcomes
+use Rattle.ep_drill.specs.declared.data.FoundData.{FoundData}
 use Rattle.ep_drill.specs.Fetches.{found_data, IsRow}
-use Rattle.ep_drill.proofs.FetchLemmas.{has_place, merged_at, never_at, absent_at, no_memory_at, fail_covers, fail_own, fail_may, fail_desk, fail_stripe, part_place, part_outcome, back_outcome, back_value}
+use Rattle.ep_drill.proofs.FetchLemmas.{has_place, merged_at, never_at, absent_at, no_memory_at, fail_covers, fail_own, fail_may, fail_desk, fail_stripe, part_place, part_outcome, part_becomes, back_becomes, back_outcome, back_value}
 use Rattle.ep_drill.proofs.fetch.fetch_merge.Goals as goal
 
 pub settle-requires-clause-stands : goal.settle-requires-clause-stands
@@ -92,6 +92,9 @@ returns-then-put_back-clause-merged g c =
       back_value (g.S.Stage.front c.args.stage.now) (g.S.Stage.front t.new.stage) a.ticket (g.S.Stage.is_telling t.new.stage) (g.S.Stage.tells t.new.stage) (g.S.Stage.tells c.settle.new.stage) y outcomes.Merged
           (ap (λ (f : FrontData). f.config) t.ensures.front) c.requires.there telling c.settle.ensures.tells a.key.items c.deref.result.now row.meta row.value.items t.result c.put_back.result c.deref.ensures.value c.put_back.ensures c.if-put_back.true,
       subst (λ (o : FoundData). IsRow o) (sym (ap found_data c.in-Row.is)) tt,
+      back_becomes (g.S.Stage.front c.args.stage.now) (g.S.Stage.front t.new.stage) a.ticket (g.S.Stage.is_telling t.new.stage) (g.S.Stage.tells t.new.stage) (g.S.Stage.tells c.settle.new.stage) y outcomes.Merged
+          (ap (λ (f : FrontData). f.config) t.ensures.front) c.requires.there telling c.settle.ensures.tells a.key.items c.deref.result.now row.meta row.value.items t.result c.put_back.result c.deref.ensures.value c.put_back.ensures c.if-put_back.true
+          (g.S.Stage.tells c.args.stage.now (Stripe a.ticket.stripe)) (found_data a.found) t.ensures.told (ap found_data c.in-Row.is),
     )
 
 pub returns-in-Row-clause-merged : goal.returns-in-Row-clause-merged
@@ -115,6 +118,8 @@ returns-in-Absent-clause-merged g c =
       ap found_data c.in-Absent.is,
       part_outcome (g.S.Stage.front c.args.stage.now) (g.S.Stage.front t.new.stage) a.ticket (g.S.Stage.is_telling t.new.stage) (g.S.Stage.tells t.new.stage) (g.S.Stage.tells r.new.stage) t.result outcomes.Absent
           (ap (λ (f : FrontData). f.config) t.ensures.front) c.requires.there (t.ensures.stays.4 ∙ c.requires.telling) r.ensures.tells has,
+      part_becomes (g.S.Stage.front c.args.stage.now) (g.S.Stage.front t.new.stage) a.ticket (g.S.Stage.is_telling t.new.stage) (g.S.Stage.tells t.new.stage) (g.S.Stage.tells r.new.stage) t.result outcomes.Absent
+          (ap (λ (f : FrontData). f.config) t.ensures.front) c.requires.there (t.ensures.stays.4 ∙ c.requires.telling) r.ensures.tells (g.S.Stage.tells c.args.stage.now (Stripe a.ticket.stripe)) t.ensures.told,
     )
 
 pub returns-in-Failed-clause-merged : goal.returns-in-Failed-clause-merged
@@ -134,6 +139,8 @@ returns-in-Failed-clause-merged g c =
       part_place (g.S.Stage.tells c.args.stage.now (Stripe a.ticket.stripe)) a.ticket t.result t.ensures.told has,
       part_outcome (g.S.Stage.front c.args.stage.now) (g.S.Stage.front v.new.self) a.ticket (g.S.Stage.is_telling v.new.self) (g.S.Stage.tells v.new.self) (g.S.Stage.tells r.new.stage) t.result (outcomes.Failed c.in-Failed.fault)
           (ap (λ (f : FrontData). f.config) (v.ensures.front ∙ noted) ∙ ap (λ (f : FrontData). f.config) (d.ensures.front ∙ t.ensures.front)) c.requires.there (v.ensures.stays.4 ∙ n.ensures.stays.4 ∙ held) r.ensures.tells has,
+      part_becomes (g.S.Stage.front c.args.stage.now) (g.S.Stage.front v.new.self) a.ticket (g.S.Stage.is_telling v.new.self) (g.S.Stage.tells v.new.self) (g.S.Stage.tells r.new.stage) t.result (outcomes.Failed c.in-Failed.fault)
+          (ap (λ (f : FrontData). f.config) (v.ensures.front ∙ noted) ∙ ap (λ (f : FrontData). f.config) (d.ensures.front ∙ t.ensures.front)) c.requires.there (v.ensures.stays.4 ∙ n.ensures.stays.4 ∙ held) r.ensures.tells (g.S.Stage.tells c.args.stage.now (Stripe a.ticket.stripe)) t.ensures.told,
     )
 
 pub returns-clause-merged : goal.returns-clause-merged
@@ -147,4 +154,6 @@ returns-clause-merged g c =
       part_place (g.S.Stage.tells c.args.stage.now (Stripe a.ticket.stripe)) a.ticket t.result t.ensures.told has,
       part_outcome (g.S.Stage.front c.args.stage.now) (g.S.Stage.front t.new.stage) a.ticket (g.S.Stage.is_telling t.new.stage) (g.S.Stage.tells t.new.stage) (g.S.Stage.tells r.new.stage) t.result outcomes.NoMemory
           (ap (λ (f : FrontData). f.config) t.ensures.front) c.requires.there (t.ensures.stays.4 ∙ c.requires.telling) r.ensures.tells has,
+      part_becomes (g.S.Stage.front c.args.stage.now) (g.S.Stage.front t.new.stage) a.ticket (g.S.Stage.is_telling t.new.stage) (g.S.Stage.tells t.new.stage) (g.S.Stage.tells r.new.stage) t.result outcomes.NoMemory
+          (ap (λ (f : FrontData). f.config) t.ensures.front) c.requires.there (t.ensures.stays.4 ∙ c.requires.telling) r.ensures.tells (g.S.Stage.tells c.args.stage.now (Stripe a.ticket.stripe)) t.ensures.told,
     )

@@ -1,7 +1,7 @@
 use Rattle.std.proofs.Common.{ℕ, List, refl, subst}
 use Rattle.std.specs.Prelude.{Option, Vec}
 use Rattle.std.specs.declared.alloc.Global.{Global}
-use Rattle.ep_drill.specs.Nodes.{first_waiting}
+use Rattle.flat_parts.specs.Nodes.{first_waiting}
 use Rattle.ep_drill.specs.Fetches.{found_data, IsOldest, IsFoundIn}
 use Rattle.ep_drill.proofs.FetchLemmas.{read_at}
 use Rattle.ep_drill.proofs.fetch.fetch_read.Goals as goal

@@ -1,5 +1,5 @@
 use Rattle.std.proofs.Common.{sym, subst}
-use Rattle.ep_drill.specs.declared.flat.data.StripeData.{StripeData}
+use Rattle.flat_parts.specs.declared.data.StripeData.{StripeData}
 use Rattle.ep_drill.specs.Stands.{StripeStands}
 use Rattle.ep_drill.proofs.PartLemmas.{page_stands}
 use Rattle.ep_drill.proofs.store.page_once.Goals as goal

@@ -99,7 +99,7 @@ returns-in-Stored-clause-ok c =
     let f : WasFlushed c.args.config.now c.args.vb (flushes.Stored c.in-Stored.number) c.args.world.now c.commit_batch-flushed.new.stage.world.now (bench_data c.args.bench.now) (bench_data (record { desk = c.commit_batch-flushed.new.desk; batch = c.replace.new.dest; reads = c.args.bench.now.reads })) =
     was_flushed c.args.config.now c.args.world.now c.reserve.new.self c.stage-stage.result.world.now c.commit_batch-flushed.new.stage.world.now c.args.vb c.stage-stage.result.vb c.commit_batch-flushed.new.stage.vb c.reserve.new.self.event_room c.reserve.new.self.byte_room
     c.requires.ready c.requires.vb c.reserve.ensures.same c.stage-stage.ensures.world c.stage-stage.ensures.vb c.commit_batch-flushed.ensures.stays.1 c.commit_batch-flushed.ensures.home
-    (bench_data c.args.bench.now) (bench_data (record { desk = c.commit_batch-flushed.new.desk; batch = c.replace.new.dest; reads = c.args.bench.now.reads })) c.commit_batch-flushed.new.desk c.in-Some.batch (flushes.Stored c.in-Stored.number) is (ap (λ (o : Option BatchData). record (bench_data c.args.bench.now) { desk = c.commit_batch-flushed.new.desk; batch = o }) c.replace.ensures.after) c.in-Stored.ensures.flushed c.in-Stored.ensures.rose in
+    (bench_data c.args.bench.now) (bench_data (record { desk = c.commit_batch-flushed.new.desk; batch = c.replace.new.dest; reads = c.args.bench.now.reads })) c.commit_batch-flushed.new.desk c.in-Some.batch (flushes.Stored c.in-Stored.number) is (ap (λ (o : Option BatchData). record (bench_data c.args.bench.now) { desk = c.commit_batch-flushed.new.desk; batch = o }) c.replace.ensures.after) c.in-Stored.ensures.flushed c.in-Stored.ensures.rose c.commit_batch-flushed.ensures.kept in
     search rules
 
 -- src/stored.rt
@@ -109,7 +109,7 @@ returns-in-Failed-clause-ok c =
     let f : WasFlushed c.args.config.now c.args.vb flushes.Failed c.args.world.now c.commit_batch-flushed.new.stage.world.now (bench_data c.args.bench.now) (bench_data (record { desk = c.commit_batch-flushed.new.desk; batch = c.replace.new.dest; reads = c.args.bench.now.reads })) =
     was_flushed c.args.config.now c.args.world.now c.reserve.new.self c.stage-stage.result.world.now c.commit_batch-flushed.new.stage.world.now c.args.vb c.stage-stage.result.vb c.commit_batch-flushed.new.stage.vb c.reserve.new.self.event_room c.reserve.new.self.byte_room
     c.requires.ready c.requires.vb c.reserve.ensures.same c.stage-stage.ensures.world c.stage-stage.ensures.vb c.commit_batch-flushed.ensures.stays.1 c.commit_batch-flushed.ensures.home
-    (bench_data c.args.bench.now) (bench_data (record { desk = c.commit_batch-flushed.new.desk; batch = c.replace.new.dest; reads = c.args.bench.now.reads })) c.commit_batch-flushed.new.desk c.in-Some.batch flushes.Failed is (ap (λ (o : Option BatchData). record (bench_data c.args.bench.now) { desk = c.commit_batch-flushed.new.desk; batch = o }) c.replace.ensures.after) c.in-Failed.ensures.flushed c.in-Failed.ensures.rose in
+    (bench_data c.args.bench.now) (bench_data (record { desk = c.commit_batch-flushed.new.desk; batch = c.replace.new.dest; reads = c.args.bench.now.reads })) c.commit_batch-flushed.new.desk c.in-Some.batch flushes.Failed is (ap (λ (o : Option BatchData). record (bench_data c.args.bench.now) { desk = c.commit_batch-flushed.new.desk; batch = o }) c.replace.ensures.after) c.in-Failed.ensures.flushed c.in-Failed.ensures.rose c.commit_batch-flushed.ensures.kept in
     search rules
 
 -- src/stored.rt
@@ -119,5 +119,5 @@ returns-in-NoMemory-clause-ok c =
     let f : WasFlushed c.args.config.now c.args.vb flushes.NoMemory c.args.world.now c.commit_batch-flushed.new.stage.world.now (bench_data c.args.bench.now) (bench_data (record { desk = c.commit_batch-flushed.new.desk; batch = Some c.in-Some.batch; reads = c.args.bench.now.reads })) =
     was_flushed c.args.config.now c.args.world.now c.reserve.new.self c.stage-stage.result.world.now c.commit_batch-flushed.new.stage.world.now c.args.vb c.stage-stage.result.vb c.commit_batch-flushed.new.stage.vb c.reserve.new.self.event_room c.reserve.new.self.byte_room
     c.requires.ready c.requires.vb c.reserve.ensures.same c.stage-stage.ensures.world c.stage-stage.ensures.vb c.commit_batch-flushed.ensures.stays.1 c.commit_batch-flushed.ensures.home
-    (bench_data c.args.bench.now) (bench_data (record { desk = c.commit_batch-flushed.new.desk; batch = Some c.in-Some.batch; reads = c.args.bench.now.reads })) c.commit_batch-flushed.new.desk c.in-Some.batch flushes.NoMemory is refl c.in-NoMemory.ensures.flushed c.in-NoMemory.ensures.rose in
+    (bench_data c.args.bench.now) (bench_data (record { desk = c.commit_batch-flushed.new.desk; batch = Some c.in-Some.batch; reads = c.args.bench.now.reads })) c.commit_batch-flushed.new.desk c.in-Some.batch flushes.NoMemory is refl c.in-NoMemory.ensures.flushed c.in-NoMemory.ensures.rose c.commit_batch-flushed.ensures.kept in
     search rules

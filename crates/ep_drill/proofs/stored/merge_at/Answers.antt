@@ -7,7 +7,7 @@ use Rattle.ep_model.specs.declared.data.FrontData.{FrontData}
 use Rattle.ep_model.specs.declared.event.PartName.TheVariants.{Stripe}
 use Rattle.vb_world.specs.declared.data.WorldData.{WorldData}
 use Rattle.vb_world.specs.World.{front_in, part_in, Sound}
-use Rattle.ep_drill.specs.declared.flat.data.FetchedData.{FetchedData}
+use Rattle.ep_drill.specs.declared.data.FetchedData.{FetchedData}
 use Rattle.ep_drill.specs.declared.part.Part.{Part}
 use Rattle.ep_drill.specs.declared.fetched.Fetched.{Fetched}
 use Rattle.ep_drill.specs.Parts.{part_stands}
@@ -17,7 +17,8 @@ use Rattle.ep_drill.specs.Works.{WasMerged}
 use Rattle.ep_drill.proofs.WorldLemmas.{room_rests}
 use Rattle.ep_drill.proofs.BenchedLemmas.{no_read_at_stripe, put_again, is_there, was_merged}
 use Rattle.ep_drill.proofs.Lists.{set_same}
-use Rattle.ep_drill.proofs.MergedLemmas.{set_mapped, read_at_stripe, merged_at, merge_ready, merge_left}
+use Rattle.std.proofs.lemmas.List.{map-set}
+use Rattle.ep_drill.proofs.MergedLemmas.{read_at_stripe, merged_at, merge_ready, merge_left}
 use Rattle.ep_drill.proofs.stored.merge_at.Goals as goal
 
 -- src/stored.rt
@@ -55,7 +56,7 @@ returns-clause-bench c =
     let read = read_at_stripe (front_in c.args.world.now c.args.vb) (bench_data c.args.bench.now) c.args.bench.now.reads.items c.args.stripe c.index_mut.result.now c.in-Some.fetched c.requires.bench refl (subst (λ (k : Config). c.args.stripe < k.stripes) (sym c.requires.ready.layout) c.requires.stripe) at was in
     let none : slice_set c.args.bench.now.reads.items c.from.result c.replace.new.dest ≡ slice_set c.args.bench.now.reads.items c.args.stripe None = search rules in
     let gone : map (option_map fetched_data) (slice_set c.args.bench.now.reads.items c.from.result c.replace.new.dest) ≡ slice_set (bench_data c.args.bench.now).reads c.args.stripe None =
-    ap (λ (l : List (Option Fetched)). map (option_map fetched_data) l) none ∙ set_mapped (option_map fetched_data) c.args.bench.now.reads.items c.args.stripe None in
+    ap (λ (l : List (Option Fetched)). map (option_map fetched_data) l) none ∙ map-set (option_map fetched_data) c.args.bench.now.reads.items c.args.stripe None in
     let sound : Sound part_stands c.fetch_merge-merging.new.stage.world.now = search rules in
     let b : BenchStands (front_in c.fetch_merge-merging.new.stage.world.now c.args.vb) (record { desk = c.args.bench.now.desk; batch = c.args.bench.now.batch; reads = map (option_map fetched_data) (slice_set c.args.bench.now.reads.items c.from.result c.replace.new.dest) }) =
     merge_left c.args.world.now c.reserve.new.self c.stage-stage.result.world.now c.fetch_merge-merging.new.stage.world.now c.args.vb c.stage-stage.result.vb c.fetch_merge-merging.new.stage.vb c.reserve.new.self.event_room c.reserve.new.self.byte_room (bench_data c.args.bench.now) c.args.stripe (fetched_data c.in-Some.fetched)
@@ -72,7 +73,7 @@ returns-in_default-clause-ok c =
     let none = no_read_at_stripe (front_in c.args.world.now c.args.vb) (bench_data c.args.bench.now) c.args.bench.now.reads.items c.args.stripe c.index_mut.result.now c.requires.bench refl (subst (λ (k : Config). c.args.stripe < k.stripes) (sym c.requires.ready.layout) c.requires.stripe) at was in
     let same : slice_set c.args.bench.now.reads.items c.from.result c.replace.new.dest ≡ slice_set c.args.bench.now.reads.items c.args.stripe None = search rules in
     let back : bench_data (record c.args.bench.now { reads = with_item c.args.bench.now.reads c.from.result c.replace.new.dest }) ≡ bench_data c.args.bench.now =
-    ap (λ (l : List (Option FetchedData)). record (bench_data c.args.bench.now) { reads = l }) (ap (λ (l : List (Option Fetched)). map (option_map fetched_data) l) same ∙ set_mapped (option_map fetched_data) c.args.bench.now.reads.items c.args.stripe None ∙ set_same (bench_data c.args.bench.now).reads c.args.stripe None none) in
+    ap (λ (l : List (Option FetchedData)). record (bench_data c.args.bench.now) { reads = l }) (ap (λ (l : List (Option Fetched)). map (option_map fetched_data) l) same ∙ map-set (option_map fetched_data) c.args.bench.now.reads.items c.args.stripe None ∙ set_same (bench_data c.args.bench.now).reads c.args.stripe None none) in
     ((refl, back), none)
 
 -- src/stored.rt
@@ -107,10 +108,10 @@ returns-clause-ok c =
     let read = read_at_stripe (front_in c.args.world.now c.args.vb) (bench_data c.args.bench.now) c.args.bench.now.reads.items c.args.stripe c.index_mut.result.now c.in-Some.fetched c.requires.bench refl (subst (λ (k : Config). c.args.stripe < k.stripes) (sym c.requires.ready.layout) c.requires.stripe) at was in
     let none : slice_set c.args.bench.now.reads.items c.from.result c.replace.new.dest ≡ slice_set c.args.bench.now.reads.items c.args.stripe None = search rules in
     let gone : map (option_map fetched_data) (slice_set c.args.bench.now.reads.items c.from.result c.replace.new.dest) ≡ slice_set (bench_data c.args.bench.now).reads c.args.stripe None =
-    ap (λ (l : List (Option Fetched)). map (option_map fetched_data) l) none ∙ set_mapped (option_map fetched_data) c.args.bench.now.reads.items c.args.stripe None in
+    ap (λ (l : List (Option Fetched)). map (option_map fetched_data) l) none ∙ map-set (option_map fetched_data) c.args.bench.now.reads.items c.args.stripe None in
     let f : WasMerged c.args.config.now c.args.vb c.args.stripe c.fetch_merge-merging.result c.args.world.now c.fetch_merge-merging.new.stage.world.now (bench_data c.args.bench.now) (bench_data (record c.args.bench.now { reads = with_item c.args.bench.now.reads c.from.result c.replace.new.dest })) =
     was_merged c.args.config.now c.args.world.now c.reserve.new.self c.stage-stage.result.world.now c.fetch_merge-merging.new.stage.world.now c.args.vb c.stage-stage.result.vb c.fetch_merge-merging.new.stage.vb c.reserve.new.self.event_room c.reserve.new.self.byte_room
     c.requires.ready c.requires.vb c.reserve.ensures.same c.stage-stage.ensures.world c.stage-stage.ensures.vb c.fetch_merge-merging.ensures.stays.1 c.fetch_merge-merging.ensures.home
     (bench_data c.args.bench.now) (bench_data (record c.args.bench.now { reads = with_item c.args.bench.now.reads c.from.result c.replace.new.dest })) c.args.stripe (fetched_data c.in-Some.fetched) c.fetch_merge-merging.result c.requires.bench read
-    (ap (λ (l : List (Option FetchedData)). record (bench_data c.args.bench.now) { reads = l }) gone) c.fetch_merge-merging.ensures.merged in
+    (ap (λ (l : List (Option FetchedData)). record (bench_data c.args.bench.now) { reads = l }) gone) c.fetch_merge-merging.ensures.merged c.fetch_merge-merging.ensures.kept in
     search rules

@@ -7,11 +7,11 @@ use Rattle.ep_model.specs.declared.event.PartName.TheVariants.{Stripe}
 use Rattle.kv_keeper.specs.declared.data.DeskData.{DeskData}
 use Rattle.kv_keeper.specs.Memory.{MemoryData}
 use Rattle.vb_world.specs.World.{front_in, part_in}
-use Rattle.ep_drill.specs.declared.flat.data.FetchedData.{FetchedData}
+use Rattle.ep_drill.specs.declared.data.FetchedData.{FetchedData}
 use Rattle.ep_drill.specs.Fetches.{fetched_data, HasWaiting}
 use Rattle.ep_drill.specs.Core.{bench_data, BenchStands, Moved, Rested}
 use Rattle.ep_drill.specs.Works.{WasFetched}
-use Rattle.ep_drill.proofs.MergedLemmas.{set_mapped}
+use Rattle.std.proofs.lemmas.List.{map-set}
 use Rattle.ep_drill.proofs.BenchedLemmas.{rested_still, was_fetched}
 use Rattle.ep_drill.proofs.WorkedLemmas.{moved_still}
 use Rattle.ep_drill.proofs.StoredLemmas.{read_some, read_none}
@@ -70,11 +70,11 @@ returns-in-Err-clause-bench c =
 pub returns-in-Ok-Some-clause-ok : goal.returns-in-Ok-Some-clause-ok
 returns-in-Ok-Some-clause-ok c =
     let same : map (option_map fetched_data) (slice_set c.args.bench.now.reads.items c.from.result (Some c.in-Ok-Some.fetched)) ≡ slice_set (bench_data c.args.bench.now).reads c.args.stripe (Some (fetched_data c.in-Ok-Some.fetched)) =
-    ap (λ (k : ℕ). map (option_map fetched_data) (slice_set c.args.bench.now.reads.items k (Some c.in-Ok-Some.fetched))) c.from.ensures ∙ set_mapped (option_map fetched_data) c.args.bench.now.reads.items c.args.stripe (Some c.in-Ok-Some.fetched) in
+    ap (λ (k : ℕ). map (option_map fetched_data) (slice_set c.args.bench.now.reads.items k (Some c.in-Ok-Some.fetched))) c.from.ensures ∙ map-set (option_map fetched_data) c.args.bench.now.reads.items c.args.stripe (Some c.in-Ok-Some.fetched) in
     let f : WasFetched c.args.config.now c.args.vb c.args.stripe true c.args.world.now c.fetch_read-read.new.stage.world.now (bench_data c.args.bench.now) (bench_data (record c.args.bench.now { desk = c.fetch_read-read.new.desk; reads = with_item c.args.bench.now.reads c.from.result (Some c.in-Ok-Some.fetched) })) =
     was_fetched c.args.config.now c.args.world.now c.stage-stage.result.world.now c.fetch_read-read.new.stage.world.now c.args.vb c.stage-stage.result.vb c.fetch_read-read.new.stage.vb c.requires.ready c.requires.vb c.stage-stage.ensures.world c.stage-stage.ensures.vb
     c.fetch_read-read.ensures.stays.1 c.fetch_read-read.ensures.home c.fetch_read-read.ensures.front
-    (bench_data c.args.bench.now) (bench_data (record c.args.bench.now { desk = c.fetch_read-read.new.desk; reads = with_item c.args.bench.now.reads c.from.result (Some c.in-Ok-Some.fetched) })) c.requires.sure c.args.stripe true c.fetch_read-read.new.desk c.in-Ok-Some.field-0 (Some c.in-Ok-Some.fetched) c.in-Ok-Some.field-0-is refl c.in-Ok-Some.ensures.oldest
+    (bench_data c.args.bench.now) (bench_data (record c.args.bench.now { desk = c.fetch_read-read.new.desk; reads = with_item c.args.bench.now.reads c.from.result (Some c.in-Ok-Some.fetched) })) c.requires.sure c.fetch_read-read.ensures.parts c.args.stripe true c.fetch_read-read.new.desk c.in-Ok-Some.field-0 (Some c.in-Ok-Some.fetched) c.in-Ok-Some.field-0-is refl c.in-Ok-Some.ensures.oldest
     (ap (λ (l : List (Option FetchedData)). record (bench_data c.args.bench.now) { desk = c.fetch_read-read.new.desk; reads = l }) same) c.fetch_read-read.ensures.desk c.in-Ok-Some.ensures.read c.in-Ok-Some.ensures.rose in
     search rules
 
@@ -84,7 +84,7 @@ returns-in-Ok-None-clause-ok c =
     let f : WasFetched c.args.config.now c.args.vb c.args.stripe false c.args.world.now c.fetch_read-read.new.stage.world.now (bench_data c.args.bench.now) (bench_data (record c.args.bench.now { desk = c.fetch_read-read.new.desk })) =
     was_fetched c.args.config.now c.args.world.now c.stage-stage.result.world.now c.fetch_read-read.new.stage.world.now c.args.vb c.stage-stage.result.vb c.fetch_read-read.new.stage.vb c.requires.ready c.requires.vb c.stage-stage.ensures.world c.stage-stage.ensures.vb
     c.fetch_read-read.ensures.stays.1 c.fetch_read-read.ensures.home c.fetch_read-read.ensures.front
-    (bench_data c.args.bench.now) (bench_data (record c.args.bench.now { desk = c.fetch_read-read.new.desk })) c.requires.sure c.args.stripe false c.fetch_read-read.new.desk c.in-Ok-None.field-0 None c.in-Ok-None.field-0-is refl c.in-Ok-None.ensures.oldest
+    (bench_data c.args.bench.now) (bench_data (record c.args.bench.now { desk = c.fetch_read-read.new.desk })) c.requires.sure c.fetch_read-read.ensures.parts c.args.stripe false c.fetch_read-read.new.desk c.in-Ok-None.field-0 None c.in-Ok-None.field-0-is refl c.in-Ok-None.ensures.oldest
     refl c.fetch_read-read.ensures.desk c.in-Ok-None.ensures.read c.in-Ok-None.ensures.rose in
     search rules
 

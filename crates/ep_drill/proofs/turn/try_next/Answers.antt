@@ -11,7 +11,7 @@ returns-in-Ok-clause-ok c =
     let at : slice_get c.args.caller.now.calls.items c.args.caller.now.answered ≡ Some c.in-Some.loaded.now =
     subst (λ (xs : List Loaded). slice_get xs c.args.caller.now.answered ≡ Some c.in-Some.loaded.now) c.deref.ensures.value (lent_at c.deref.result.now c.args.caller.now.answered c.in-Some.loaded.now l.3.0 l.1) in
     let next : next_of (caller_data c.args.caller.now) ≡ Some (loaded_data c.in-Some.loaded.now) = get_told loaded_data c.args.caller.now.calls.items c.args.caller.now.answered c.in-Some.loaded.now at in
-    (loaded_data c.in-Some.loaded.now, next, c.in-Ok.ensures.ok, c.advance.ensures, c.in-Ok.ensures.comes)
+    (loaded_data c.in-Some.loaded.now, next, c.in-Ok.ensures.ok, c.advance.ensures, c.in-Ok.ensures.comes, c.try_loaded.ensures.kept)
 
 pub returns-in-Err-clause-err : goal.returns-in-Err-clause-err
 returns-in-Err-clause-err c =

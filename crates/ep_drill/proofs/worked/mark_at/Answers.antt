@@ -13,7 +13,7 @@ returns-clause-ok c =
     let m : WasMarked c.args.config.now c.args.vb c.args.stripe c.mark_once-marking.result c.args.world.now c.mark_once-marking.new.stage.world.now (bench_data c.args.bench.now) (bench_data c.args.bench.now) =
     mark_marks c.args.config.now c.args.world.now c.reserve.new.self c.stage-stage.result.world.now c.mark_once-marking.new.stage.world.now c.args.vb c.stage-stage.result.vb c.mark_once-marking.new.stage.vb c.reserve.new.self.event_room c.reserve.new.self.byte_room
     c.args.stripe c.args.bench.now.desk.noted c.mark_once-marking.result c.requires.ready c.requires.vb c.reserve.ensures.same c.stage-stage.ensures.world c.stage-stage.ensures.vb c.mark_once-marking.ensures.stays.1 c.mark_once-marking.ensures.home c.mark_once-marking.ensures.front
-    (bench_data c.args.bench.now) refl in
+    (bench_data c.args.bench.now) refl c.mark_once-marking.ensures.raised c.mark_once-marking.ensures.kept in
     search rules
 
 -- src/worked.rt

@@ -5,7 +5,8 @@ use Rattle.ep_drill.specs.declared.choice.Answer.{Answer}
 use Rattle.ep_drill.specs.Core.{core_data}
 use Rattle.ep_drill.specs.Stepped.{IsFronted, IsIdle, Spares}
 use Rattle.std.specs.Vec.{vec_len}
-use Rattle.ep_drill.proofs.TurnLemmas.{turned_at, fronted_at, front_spared, caller_of, lent_at}
+use Rattle.std.proofs.lemmas.Option.{slice_get_read}
+use Rattle.ep_drill.proofs.TurnLemmas.{turned_at, fronted_at, front_spared, caller_of}
 use Rattle.ep_drill.proofs.engine.Core.front.Goals as goal
 
 pub try_next-tried-requires-clause-stands : goal.try_next-tried-requires-clause-stands
@@ -13,7 +14,7 @@ try_next-tried-requires-clause-stands c =
     let o = c.self.inside in
     let count : vec_len o.callers ≡ length o.callers.items = search rules in
     let within : c.from.result < vec_len o.callers = c.in-Some.ensures.variant.0 refl in
-    let at : slice_get o.callers.items c.from.result ≡ Some c.in-Some.caller.now = lent_at o.callers.items (vec_len o.callers) c.from.result c.in-Some.caller.now count within c.in-Some.ensures.value in
+    let at : slice_get o.callers.items c.from.result ≡ Some c.in-Some.caller.now = slice_get_read o.callers.items (vec_len o.callers) c.from.result c.in-Some.caller.now count within c.in-Some.ensures.value in
     (caller_of o.config o.world o.benches.items o.callers.items c.from.result c.from-2.result c.args.number c.in-Some.caller.now c.from.ensures c.from-2.ensures c.self.invariant.0 at).0
 
 pub try_next-tried-requires-clause-loaded : goal.try_next-tried-requires-clause-loaded
@@ -21,7 +22,7 @@ try_next-tried-requires-clause-loaded c =
     let o = c.self.inside in
     let count : vec_len o.callers ≡ length o.callers.items = search rules in
     let within : c.from.result < vec_len o.callers = c.in-Some.ensures.variant.0 refl in
-    let at : slice_get o.callers.items c.from.result ≡ Some c.in-Some.caller.now = lent_at o.callers.items (vec_len o.callers) c.from.result c.in-Some.caller.now count within c.in-Some.ensures.value in
+    let at : slice_get o.callers.items c.from.result ≡ Some c.in-Some.caller.now = slice_get_read o.callers.items (vec_len o.callers) c.from.result c.in-Some.caller.now count within c.in-Some.ensures.value in
     (caller_of o.config o.world o.benches.items o.callers.items c.from.result c.from-2.result c.args.number c.in-Some.caller.now c.from.ensures c.from-2.ensures c.self.invariant.0 at).1
 
 pub invariant_of-self-2 : goal.invariant_of-self-2
@@ -30,7 +31,7 @@ invariant_of-self-2 c =
     let t = c.try_next-tried in
     let count : vec_len o.callers ≡ length o.callers.items = search rules in
     let within : c.from.result < vec_len o.callers = c.in-Some.ensures.variant.0 refl in
-    let at : slice_get o.callers.items c.from.result ≡ Some c.in-Some.caller.now = lent_at o.callers.items (vec_len o.callers) c.from.result c.in-Some.caller.now count within c.in-Some.ensures.value in (
+    let at : slice_get o.callers.items c.from.result ≡ Some c.in-Some.caller.now = slice_get_read o.callers.items (vec_len o.callers) c.from.result c.in-Some.caller.now count within c.in-Some.ensures.value in (
       (turned_at c.args.self.now o.config o.world t.new.world o.benches.items o.callers.items c.from.result c.from-2.result c.args.number c.args.now c.in-Some.caller.now t.new.caller t.new.value.bytes t.result
           c.self.view_is c.from.ensures c.from-2.ensures c.self.invariant.0 at t.ensures.ok t.ensures.err t.ensures.sound).0,
       t.ensures.value,
@@ -42,7 +43,7 @@ returns-clause-interleaves c =
     let t = c.try_next-tried in
     let count : vec_len o.callers ≡ length o.callers.items = search rules in
     let within : c.from.result < vec_len o.callers = c.in-Some.ensures.variant.0 refl in
-    let at : slice_get o.callers.items c.from.result ≡ Some c.in-Some.caller.now = lent_at o.callers.items (vec_len o.callers) c.from.result c.in-Some.caller.now count within c.in-Some.ensures.value in
+    let at : slice_get o.callers.items c.from.result ≡ Some c.in-Some.caller.now = slice_get_read o.callers.items (vec_len o.callers) c.from.result c.in-Some.caller.now count within c.in-Some.ensures.value in
     (turned_at c.args.self.now o.config o.world t.new.world o.benches.items o.callers.items c.from.result c.from-2.result c.args.number c.args.now c.in-Some.caller.now t.new.caller t.new.value.bytes t.result
     c.self.view_is c.from.ensures c.from-2.ensures c.self.invariant.0 at t.ensures.ok t.ensures.err t.ensures.sound).0
 
@@ -52,7 +53,7 @@ returns-clause-goes_on c =
     let t = c.try_next-tried in
     let count : vec_len o.callers ≡ length o.callers.items = search rules in
     let within : c.from.result < vec_len o.callers = c.in-Some.ensures.variant.0 refl in
-    let at : slice_get o.callers.items c.from.result ≡ Some c.in-Some.caller.now = lent_at o.callers.items (vec_len o.callers) c.from.result c.in-Some.caller.now count within c.in-Some.ensures.value in
+    let at : slice_get o.callers.items c.from.result ≡ Some c.in-Some.caller.now = slice_get_read o.callers.items (vec_len o.callers) c.from.result c.in-Some.caller.now count within c.in-Some.ensures.value in
     (turned_at c.args.self.now o.config o.world t.new.world o.benches.items o.callers.items c.from.result c.from-2.result c.args.number c.args.now c.in-Some.caller.now t.new.caller t.new.value.bytes t.result
     c.self.view_is c.from.ensures c.from-2.ensures c.self.invariant.0 at t.ensures.ok t.ensures.err t.ensures.sound).1
 
@@ -62,7 +63,7 @@ returns-clause-fronted c =
     let t = c.try_next-tried in
     let count : vec_len o.callers ≡ length o.callers.items = search rules in
     let within : c.from.result < vec_len o.callers = c.in-Some.ensures.variant.0 refl in
-    let at : slice_get o.callers.items c.from.result ≡ Some c.in-Some.caller.now = lent_at o.callers.items (vec_len o.callers) c.from.result c.in-Some.caller.now count within c.in-Some.ensures.value in
+    let at : slice_get o.callers.items c.from.result ≡ Some c.in-Some.caller.now = slice_get_read o.callers.items (vec_len o.callers) c.from.result c.in-Some.caller.now count within c.in-Some.ensures.value in
     let f = fronted_at c.args.self.now o.config o.world t.new.world o.benches.items o.callers.items c.from.result c.from-2.result c.args.number c.args.now c.in-Some.caller.now t.new.caller t.new.value.bytes t.result
     c.self.view_is c.from.ensures c.from-2.ensures at t.ensures.ok in
     subst (λ (r : Result Answer NoMemory). IfOk r (IsFronted c.args.self.now (core_data o.config t.new.world o.benches.items (slice_set o.callers.items c.from.result t.new.caller)) c.args.number c.args.now)) (sym c.answer_of.ensures) f
@@ -73,7 +74,7 @@ returns-clause-err c =
     let t = c.try_next-tried in
     let count : vec_len o.callers ≡ length o.callers.items = search rules in
     let within : c.from.result < vec_len o.callers = c.in-Some.ensures.variant.0 refl in
-    let at : slice_get o.callers.items c.from.result ≡ Some c.in-Some.caller.now = lent_at o.callers.items (vec_len o.callers) c.from.result c.in-Some.caller.now count within c.in-Some.ensures.value in
+    let at : slice_get o.callers.items c.from.result ≡ Some c.in-Some.caller.now = slice_get_read o.callers.items (vec_len o.callers) c.from.result c.in-Some.caller.now count within c.in-Some.ensures.value in
     let s = front_spared c.args.self.now o.config o.world t.new.world o.benches.items o.callers.items c.from.result c.args.number c.args.now c.in-Some.caller.now t.new.caller t.result
     c.self.view_is c.from.ensures at (search rules) t.ensures.err in
     let last = core_data o.config t.new.world o.benches.items (slice_set o.callers.items c.from.result t.new.caller) in

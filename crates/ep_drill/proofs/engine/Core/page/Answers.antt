@@ -28,4 +28,4 @@ returns-clause-goes_on c =
 
 pub returns-clause-paged : goal.returns-clause-paged
 returns-clause-paged c =
-    paged_at c.args.self.now c.self.inside.config c.self.inside.world c.page_at.new.world c.self.inside.benches.items c.self.inside.callers.items c.args.vb c.args.stripe c.page_at.result c.self.view_is c.page_at.ensures.worked c.page_at.ensures.paged
+    paged_at c.args.self.now c.self.inside.config c.self.inside.world c.page_at.new.world c.self.inside.benches.items c.self.inside.callers.items c.args.vb c.args.stripe c.page_at.result c.self.view_is c.page_at.ensures.worked c.page_at.ensures.paged c.page_at.ensures.kept

@@ -1,6 +1,0 @@
-use Rattle.ep_drill.specs.Flat.{nodes_data}
-use Rattle.ep_drill.proofs.NodeLemmas.{Paged}
-use Rattle.ep_drill.proofs.flat.nodes.page.Given as goal
-
-abbrev pub invariant-loop-index : goal.invariant-loop-index
-invariant-loop-index l = Paged l.mark (nodes_data l.initial.nodes.items) l.nodes.items l.index l.used l.ejects

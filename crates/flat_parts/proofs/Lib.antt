@@ -1,0 +1,7 @@
+pub mod Lists
+pub mod PlaceLemmas
+pub mod NodeLemmas
+pub mod QueueLemmas
+pub mod StripeLemmas
+pub mod ShowLemmas
+pub mod WriteLemmas
