@@ -71,7 +71,13 @@ module _ (old : CoreData) (config : Config) (w z : WorldData Part) (benches : Li
   benched_err after Q (Ok answer) err = tt
   benched_err after Q (Err e) err = (spared_at after err.0 err.1, bench_is Q err.2)
 
-  -- the same for a read
+  -- the same for a merge, whose stripe is there
+  pub merge_err : {E : Type 0} (after : Bench) (stripe : ℕ) (Q : BenchData → Type 0) (result : Result Answer E) → stripe < config.stripes → OnErr result (Rested config w z × (bench_data after ≡ bench_data bench) × Q (bench_data bench))
+      → OnErr result (Spares old (core_data config z (slice_set benches place after) callers) × (stripe < old.config.stripes) × BenchIs old vb Q)
+  merge_err after stripe Q (Ok answer) there err = tt
+  merge_err after stripe Q (Err e) there err = (spared_at after err.0 err.1, subst (λ (o : CoreData). stripe < o.config.stripes) is there, bench_is Q err.2)
+
+  -- and for a read
   pub read_err : {E : Type 0} (after : Bench) (stripe : ℕ) (result : Result Answer E)
       → OnErr result (Rested config w z × (bench_data after ≡ bench_data bench) × ((bench_data bench).desk.doubt ≡ None) × HasWaiting (part_in w vb (Stripe stripe)))
       → OnErr result (Spares old (core_data config z (slice_set benches place after) callers) × BenchIs old vb (λ b. b.desk.doubt ≡ None) × HasWaiting (part_in old.world vb (Stripe stripe)))

@@ -127,7 +127,7 @@ TakesMemory core (choices.TakeBatch vb) = ⊥
 TakesMemory core (choices.Commit vb) = BenchIs core vb (λ bench. IsSome bench.batch)
 TakesMemory core (choices.Mark vb stripe) = (vb < core.config.vbuckets) × (stripe < core.config.stripes)
 TakesMemory core (choices.Read vb stripe) = BenchIs core vb (λ bench. bench.desk.doubt ≡ None) × HasWaiting (part_in core.world vb (Stripe stripe))
-TakesMemory core (choices.Merge vb stripe) = BenchIs core vb (λ bench. slice_get bench.reads stripe ≡ Some None → ⊥)
+TakesMemory core (choices.Merge vb stripe) = (stripe < core.config.stripes) × BenchIs core vb (λ bench. slice_get bench.reads stripe ≡ Some None → ⊥)
 TakesMemory core (choices.Page vb stripe) = ⊥
 TakesMemory core (choices.Expire vb stripe now) = ⊥
 

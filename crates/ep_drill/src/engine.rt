@@ -160,7 +160,7 @@ impl Core {
         ensures interleaves { Interleaves self.new }
         ensures goes_on { GoesOn self.old self.new }
         ensures merged { IfOk result (IsBenched self.old self.new vb (IsNowhere self.old vb stripe) (Merges self.old.config vb stripe)) }
-        ensures err { OnErr result (Spares self.old self.new × BenchIs self.old vb (λ bench. slice_get bench.reads stripe ≡ Some None → ⊥)) }
+        ensures err { OnErr result (Spares self.old self.new × (stripe < self.old.config.stripes) × BenchIs self.old vb (λ bench. slice_get bench.reads stripe ≡ Some None → ⊥)) }
     {
         let Some(bench) = self.benches.get_mut(usize::from(vb)) else {
             return Ok(Answer::Nothing);

@@ -153,8 +153,8 @@ fn benches_of(
 }
 
 impl Core {
-    /// A core of new vBuckets, each opened over its keeper, and callers with nothing to call. Where the layout is out
-    /// of its limits, or memory is wanting, the keepers come back.
+    /// A core of new vBuckets, each opened over its keeper, which holds nothing yet, and callers with nothing to call.
+    /// Where the layout is out of its limits, or memory is wanting, the keepers come back.
     pub fn new(
         alloc: Global,
         config: &Config,

@@ -22,7 +22,7 @@ const CONFIG: Config = Config {
 /// A moment in nanoseconds since 1970.
 const NOW: u64 = 1_000_000_000_000_000_000;
 
-/// A value of 26 blocks of 64 bytes.
+/// A value of 13 blocks of 128 bytes.
 const LONG: [u8; 1664] = [b'v'; 1664];
 
 const TAKE: StepChoice = StepChoice::TakeBatch { vb: 0 };

@@ -6,7 +6,7 @@ use Rattle.ep_drill.proofs.EngineLemmas.{lent_at, bench_of, benched_core}
 use Rattle.ep_drill.specs.declared.data.BenchData.{BenchData}
 use Rattle.ep_drill.specs.Stepped.{IsNowhere}
 use Rattle.ep_drill.specs.Works.{Merges}
-use Rattle.ep_drill.proofs.SteppedLemmas.{benched_ok, benched_err}
+use Rattle.ep_drill.proofs.SteppedLemmas.{benched_ok, merge_err}
 use Rattle.ep_drill.proofs.engine.Core.merge.Goals as goal
 
 -- src/engine.rt
@@ -63,5 +63,5 @@ pub returns-clause-err : goal.returns-clause-err
 returns-clause-err c =
     let at : slice_get c.self.inside.benches.items c.from.result ≡ Some c.in-Some.bench.now =
     lent_at c.self.inside.benches.items c.from.result c.in-Some.bench.now c.in-Some.ensures.item.3.0 c.in-Some.ensures.value in
-    benched_err c.args.self.now c.self.inside.config c.self.inside.world c.merge_at.new.world c.self.inside.benches.items c.self.inside.callers.items c.from.result c.args.vb c.in-Some.bench.now c.self.view_is (search rules) at
-    c.merge_at.new.bench (λ (b : BenchData). slice_get b.reads c.args.stripe ≡ Some None → ⊥) c.merge_at.result c.merge_at.ensures.err
+    merge_err c.args.self.now c.self.inside.config c.self.inside.world c.merge_at.new.world c.self.inside.benches.items c.self.inside.callers.items c.from.result c.args.vb c.in-Some.bench.now c.self.view_is (search rules) at
+    c.merge_at.new.bench c.args.stripe (λ (b : BenchData). slice_get b.reads c.args.stripe ≡ Some None → ⊥) c.merge_at.result (search rules) c.merge_at.ensures.err
