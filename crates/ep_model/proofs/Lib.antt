@@ -1,4 +1,5 @@
 pub mod DecimalLemmas
+pub mod EffectLemmas
 pub mod HistoryLemmas
 pub mod PlainAnswers
 pub mod PlainLemmas

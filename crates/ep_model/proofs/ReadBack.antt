@@ -12,35 +12,36 @@ use Rattle.ep_model.specs.declared.call.VbState.TheVariants.{Active}
 use Rattle.ep_model.specs.declared.call.StoreKind.TheVariants as kinds
 use Rattle.ep_model.specs.declared.data.CallData.{CallData}
 use Rattle.ep_model.specs.declared.data.CallData.TheVariants.{Get, Store}
-use Rattle.ep_model.specs.declared.status.TheConstants.{SUCCESS, KEY_NOT_FOUND, KEY_EXISTS, TOO_LARGE, OUT_OF_RANGE}
+use Rattle.ep_model.specs.Statuses.{success, key_not_found, key_exists, too_large, out_of_range}
 use Rattle.ep_model.specs.World.{Doc, World, is_live, live, live_of, secs, stored_expiry, blocks, last_seqno, next_doc, put}
-use Rattle.ep_model.specs.Refusals.{has_key, state_refusal, cas_refusal, number_refusal}
+use Rattle.ep_model.specs.Calls.{has_key}
+use Rattle.ep_model.specs.Refusals.{state_refusal, cas_refusal, number_refusal}
 use Rattle.ep_model.specs.Answer.{Answer, unless, put_success, cas_of, answer_get, answer_store, answer_row, answer, apply}
 use Rattle.ep_model.specs.Laws.{SetIsReadBack, SetKeepsOthers, found}
 
 -- a status that isn't success refuses what doesn't succeed
-unless-success : (b : Bool) (status : ℕ) (done : Answer) → status ≢ SUCCESS → (unless (cond b (Some status) None) done).reply.status ≡ SUCCESS → unless (cond b (Some status) None) done ≡ done
+unless-success : (b : Bool) (status : ℕ) (done : Answer) → status ≢ success → (unless (cond b (Some status) None) done).reply.status ≡ success → unless (cond b (Some status) None) done ≡ done
 unless-success true status done differs h = absurd (differs h)
 unless-success false status done differs h = refl
 
 -- a call that the CAS rule lets succeed is done
-cas-success : (cas : ℕ) (was : Option ℕ) (done : Answer) → (unless (cas_refusal cas was) done).reply.status ≡ SUCCESS → unless (cas_refusal cas was) done ≡ done
-cas-success cas None done h = elim (cas == 0) as (λ b. (unless (cond b None (Some KEY_NOT_FOUND)) done).reply.status ≡ SUCCESS → unless (cond b None (Some KEY_NOT_FOUND)) done ≡ done) [ true ↦ λ is. refl | false ↦ λ is. absurd (omega arith) ] h
-cas-success cas (Some current) done h = elim (cas == 0 || cas == current) as (λ b. (unless (cond b None (Some KEY_EXISTS)) done).reply.status ≡ SUCCESS → unless (cond b None (Some KEY_EXISTS)) done ≡ done) [ true ↦ λ is. refl | false ↦ λ is. absurd (omega arith) ] h
+cas-success : (cas : ℕ) (was : Option ℕ) (done : Answer) → (unless (cas_refusal cas was) done).reply.status ≡ success → unless (cas_refusal cas was) done ≡ done
+cas-success cas None done h = elim (cas == 0) as (λ b. (unless (cond b None (Some key_not_found)) done).reply.status ≡ success → unless (cond b None (Some key_not_found)) done ≡ done) [ true ↦ λ is. refl | false ↦ λ is. absurd (omega arith) ] h
+cas-success cas (Some current) done h = elim (cas == 0 || cas == current) as (λ b. (unless (cond b None (Some key_exists)) done).reply.status ≡ success → unless (cond b None (Some key_exists)) done ≡ done) [ true ↦ λ is. refl | false ↦ λ is. absurd (omega arith) ] h
 
 -- what a Set that succeeds has put
 abbrev stored : World → List ℕ → List ℕ → ℕ → ℕ → ℕ → Answer
 stored w key value flags expiry now = put_success w key (next_doc w value flags expiry false now) 0 []
 
 -- a Set that succeeds stores
-set-success : (w : World) (key value : List ℕ) (flags expiration cas now : ℕ) → (answer_store kinds.Set w key value flags expiration cas now).reply.status ≡ SUCCESS → answer_store kinds.Set w key value flags expiration cas now ≡ stored w key value flags (stored_expiry expiration now) now
+set-success : (w : World) (key value : List ℕ) (flags expiration cas now : ℕ) → (answer_store kinds.Set w key value flags expiration cas now).reply.status ≡ success → answer_store kinds.Set w key value flags expiration cas now ≡ stored w key value flags (stored_expiry expiration now) now
 set-success w key value flags expiration cas now h =
     let done : Answer = stored w key value flags (stored_expiry expiration now) now in
     let numbered : Answer = unless (number_refusal w.high) done in
     let under : Answer = unless (cas_refusal cas (cas_of (live w key now))) numbered in
-    let sized : answer_store kinds.Set w key value flags expiration cas now ≡ under = unless-success (nat_lt w.fit (blocks (length key) + blocks (length value))) TOO_LARGE under (omega arith) h in
+    let sized : answer_store kinds.Set w key value flags expiration cas now ≡ under = unless-success (nat_lt w.fit (blocks (length key) + blocks (length value))) too_large under (omega arith) h in
     let allowed : under ≡ numbered = cas-success cas (cas_of (live w key now)) numbered (ap (λ (a : Answer). a.reply.status) (sym sized) ∙ h) in
-    let last : numbered ≡ done = unless-success (w.high == last_seqno) OUT_OF_RANGE done (omega arith) (ap (λ (a : Answer). a.reply.status) (sym (sized ∙ allowed)) ∙ h) in
+    let last : numbered ≡ done = unless-success (w.high == last_seqno) out_of_range done (omega arith) (ap (λ (a : Answer). a.reply.status) (sym (sized ∙ allowed)) ∙ h) in
     sized ∙ allowed ∙ last
 
 -- in an active world a call is answered by its row
@@ -48,7 +49,7 @@ at-active : (w : World) (call : CallData) (now : ℕ) → w.state ≡ Active →
 at-active w call now active = ap (λ s. unless (state_refusal s (has_key call)) (answer_row w call now)) active
 
 -- what a Set that succeeds is answered
-set-stored : (w : World) (key value : List ℕ) (flags expiration cas now : ℕ) → w.state ≡ Active → (answer w (Store kinds.Set key value flags expiration cas) now).reply.status ≡ SUCCESS → answer w (Store kinds.Set key value flags expiration cas) now ≡ stored w key value flags (stored_expiry expiration now) now
+set-stored : (w : World) (key value : List ℕ) (flags expiration cas now : ℕ) → w.state ≡ Active → (answer w (Store kinds.Set key value flags expiration cas) now).reply.status ≡ success → answer w (Store kinds.Set key value flags expiration cas) now ≡ stored w key value flags (stored_expiry expiration now) now
 set-stored w key value flags expiration cas now active h =
     let e = at-active w (Store kinds.Set key value flags expiration cas) now active in
     e ∙ set-success w key value flags expiration cas now (ap (λ (a : Answer). a.reply.status) (sym e) ∙ h)

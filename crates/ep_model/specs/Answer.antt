@@ -9,9 +9,10 @@ use Rattle.ep_model.specs.declared.call.StoreKind.{StoreKind}
 use Rattle.ep_model.specs.declared.call.Reply.{Reply}
 use Rattle.ep_model.specs.declared.data.CallData.{CallData}
 use Rattle.ep_model.specs.declared.data.CallData.TheVariants.{Get, Store, Join, Count, Delete, Touch, Observe, Failovers, SetState, GetState}
-use Rattle.ep_model.specs.declared.status.TheConstants.{SUCCESS, KEY_NOT_FOUND, NOT_STORED, BAD_DELTA}
+use Rattle.ep_model.specs.Statuses.{success, key_not_found, not_stored, bad_delta}
 use Rattle.ep_model.specs.World.{Doc, World, live, stored_expiry, uuid_of, next_doc, tombstone, put}
-use Rattle.ep_model.specs.Refusals.{has_key, state_refusal, size_refusal, join_refusal, cas_refusal, wanted_refusal, store_refusal, new_count_refusal, number_refusal}
+use Rattle.ep_model.specs.Calls.{has_key}
+use Rattle.ep_model.specs.Refusals.{state_refusal, size_refusal, join_refusal, cas_refusal, wanted_refusal, store_refusal, new_count_refusal, number_refusal}
 use Rattle.ep_model.specs.Decimal.{number_of}
 
 -- what a call does: nothing, one document for one key, or a state
@@ -26,8 +27,12 @@ pub record Answer : Type 0 where
   pub effect : Effect
 
 -- a status alone
+abbrev pub bare_reply : ℕ → Reply
+bare_reply status = record { status = status; cas = 0; flags = 0; uuid = 0; seqno = 0 }
+
+-- a status alone, without an effect
 abbrev pub refused : ℕ → Answer
-refused status = record { reply = record { status = status; cas = 0; flags = 0; uuid = 0; seqno = 0 }; value = []; effect = Nothing }
+refused status = record { reply = bare_reply status; value = []; effect = Nothing }
 
 -- refused by a status, or where there is none done
 abbrev pub unless : Option ℕ → Answer → Answer
@@ -36,12 +41,12 @@ unless (Some status) done = refused status
 
 -- success without an effect
 abbrev pub shows : ℕ → ℕ → List ℕ → Answer
-shows cas flags value = record { reply = record { status = SUCCESS; cas = cas; flags = flags; uuid = 0; seqno = 0 }; value = value; effect = Nothing }
+shows cas flags value = record { reply = record (bare_reply success) { cas = cas; flags = flags }; value = value; effect = Nothing }
 
 -- success with the effect that puts a document, shown with its numbers, flags and a value
 abbrev pub put_success : World → List ℕ → Doc → ℕ → List ℕ → Answer
 put_success w key doc flags value = record {
-  reply = record { status = SUCCESS; cas = doc.cas; flags = flags; uuid = uuid_of w.failovers; seqno = doc.seqno };
+  reply = record (bare_reply success) { cas = doc.cas; flags = flags; uuid = uuid_of w.failovers; seqno = doc.seqno };
   value = value;
   effect = Puts key doc;
 }
@@ -64,7 +69,7 @@ cas_of found = option_map (λ (d : Doc). d.cas) found
 
 -- Get: the live document
 abbrev pub answer_get : Option Doc → Answer
-answer_get None = refused KEY_NOT_FOUND
+answer_get None = refused key_not_found
 answer_get (Some doc) = shows doc.cas doc.flags doc.value
 
 -- Set, Add and Replace
@@ -86,7 +91,7 @@ joined front value piece = if front then piece ++ value else value ++ piece
 
 -- Append and Prepend to the live document: its flags and its expiry stay
 abbrev pub answer_join : Bool → World → List ℕ → List ℕ → ℕ → ℕ → Option Doc → Answer
-answer_join front w key piece cas now None = refused NOT_STORED
+answer_join front w key piece cas now None = refused not_stored
 answer_join front w key piece cas now (Some doc) =
     unless (cas_refusal cas (Some doc.cas)) (
     unless (join_refusal w.fit (length key) (length doc.value + length piece)) (
@@ -98,7 +103,7 @@ counted down number delta = if down then number - delta else (number + delta) % 
 
 -- a counter of this number, if it is one, goes on
 abbrev pub counts_on : Bool → World → List ℕ → ℕ → ℕ → Doc → Option ℕ → Answer
-counts_on down w key delta now doc None = refused BAD_DELTA
+counts_on down w key delta now doc None = refused bad_delta
 counts_on down w key delta now doc (Some number) = counts w key (counted down number delta) doc.flags doc.expiry now
 
 -- Increment and Decrement: without a live document the initial value is stored
@@ -119,7 +124,7 @@ shown_value fetch doc = if fetch then doc.value else []
 
 -- Touch and Get-and-touch: an effect only where the stored expiry differs
 abbrev pub answer_touch : Bool → World → List ℕ → ℕ → ℕ → Option Doc → Answer
-answer_touch fetch w key expiration now None = refused KEY_NOT_FOUND
+answer_touch fetch w key expiration now None = refused key_not_found
 answer_touch fetch w key expiration now (Some doc) =
     if stored_expiry expiration now == doc.expiry then shows doc.cas (shown_flags fetch doc) (shown_value fetch doc) else
     puts w key (next_doc w doc.value doc.flags (stored_expiry expiration now) false now) (shown_flags fetch doc) (shown_value fetch doc)
@@ -130,7 +135,7 @@ observed w = 0 ∷ to_be_bytes w16 w.id ++ to_be_bytes w64 (uuid_of w.failovers)
 
 -- ObserveSeqno, under the newest uuid
 abbrev pub answer_observe : World → ℕ → Answer
-answer_observe w uuid = if uuid == uuid_of w.failovers then shows 0 0 (observed w) else refused KEY_NOT_FOUND
+answer_observe w uuid = if uuid == uuid_of w.failovers then shows 0 0 (observed w) else refused key_not_found
 
 -- the failover table: a uuid and a sequence number for each entry, the newest first
 abbrev pub failover_bytes : List (ℕ × ℕ) → List ℕ
@@ -146,7 +151,7 @@ state_code Dead = 4
 
 -- SetVBucket sets the state and no document
 abbrev pub answer_set_state : VbState → Answer
-answer_set_state state = record { reply = record { status = SUCCESS; cas = 0; flags = 0; uuid = 0; seqno = 0 }; value = []; effect = Sets state }
+answer_set_state state = record { reply = bare_reply success; value = []; effect = Sets state }
 
 -- the row of each call
 abbrev pub answer_row : World → CallData → ℕ → Answer

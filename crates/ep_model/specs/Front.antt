@@ -1,19 +1,19 @@
 -- What is known of a history: a front of it.
-use Rattle.std.specs.Prelude.{ℕ, false, ◌==◌, if◌then◌else◌, List, [], ◌∷◌, ◌++◌, Option, Some, None}
+use Rattle.std.specs.Prelude.{ℕ, true, false, ◌==◌, if◌then◌else◌, List, [], ◌∷◌, ◌++◌, Option, Some, None}
 use Rattle.std.specs.FinMap as map
 use Rattle.ep_model.specs.declared.call.VbState.TheVariants.{Active}
 use Rattle.ep_model.specs.declared.config.Config.{Config}
 use Rattle.ep_model.specs.declared.data.EventData.{EventData}
-use Rattle.ep_model.specs.declared.data.EventData.TheVariants.{Called, Refused, Expired, Persisted, Marked, Asked, ReadFailed, Opened}
+use Rattle.ep_model.specs.declared.data.EventData.TheVariants.{Marked}
 use Rattle.ep_model.specs.declared.data.FrontData.{FrontData}
 use Rattle.ep_model.specs.declared.data.StartData.{StartData}
 use Rattle.ep_model.specs.Config.{fit_of}
 use Rattle.ep_model.specs.World.{World}
 use Rattle.ep_model.specs.History.{after}
 
--- the start of a vBucket that nothing was ever stored of
+-- the start of a vBucket that nothing was ever stored of, which is known
 abbrev pub empty_start : StartData
-empty_start = record { docs = []; high = 0; maxcas = 0; failovers = [] }
+empty_start = record { told = true; docs = []; high = 0; maxcas = 0; failovers = [] }
 
 -- the start that was put, or before one is put the empty one
 abbrev pub started : Option StartData → StartData
@@ -31,6 +31,9 @@ start_world config id s = record {
   failovers = s.failovers;
   persisted = s.high;
   opened = false;
+  told = s.told;
+  stripes = config.stripes;
+  eviction = config.eviction;
   fit = fit_of config;
 }
 
@@ -53,14 +56,8 @@ with_start f start = record f { start = start }
 
 -- up to which number a stripe knows mutations to be stored, after one more event
 abbrev pub mark_after : ℕ → ℕ → EventData → ℕ
-mark_after stripe mark (Called caller call now reply value) = mark
-mark_after stripe mark (Refused caller call now cause) = mark
-mark_after stripe mark (Expired key now) = mark
-mark_after stripe mark (Persisted number) = mark
 mark_after stripe mark (Marked other number) = if other == stripe then number else mark
-mark_after stripe mark (Asked ticket caller call) = mark
-mark_after stripe mark (ReadFailed ticket fault) = mark
-mark_after stripe mark Opened = mark
+mark_after stripe mark event = mark
 
 abbrev pub mark_in : ℕ → ℕ → List EventData → ℕ
 mark_in stripe mark [] = mark

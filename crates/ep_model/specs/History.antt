@@ -1,5 +1,5 @@
 -- Histories of one vBucket: lists of events after a start, and the worlds that they leave.
-use Rattle.std.specs.Prelude.{ℕ, true, ◌==◌, if◌then◌else◌, List, [], ◌∷◌}
+use Rattle.std.specs.Prelude.{ℕ, true, false, ◌==◌, if◌then◌else◌, List, [], ◌∷◌, Option, Some, None}
 use Rattle.ep_model.specs.declared.call.Call.{Call}
 use Rattle.ep_model.specs.declared.call.Call.TheVariants as calls
 use Rattle.ep_model.specs.declared.event.Event.{Event}
@@ -8,8 +8,11 @@ use Rattle.ep_model.specs.declared.data.CallData.{CallData}
 use Rattle.ep_model.specs.declared.data.CallData.TheVariants.{Get, Store, Join, Count, Delete, Touch, Observe, Failovers, SetState, GetState}
 use Rattle.ep_model.specs.declared.data.EventData.{EventData}
 use Rattle.ep_model.specs.declared.data.EventData.TheVariants.{Called, Refused, Expired, Persisted, Marked, Asked, ReadFailed, Opened}
-use Rattle.ep_model.specs.World.{World, tombstone, put}
-use Rattle.ep_model.specs.Answer.{answer, apply}
+use Rattle.ep_model.specs.declared.call.Reply.{Reply}
+use Rattle.ep_model.specs.Statuses.{success}
+use Rattle.ep_model.specs.Calls.{written_key}
+use Rattle.ep_model.specs.World.{World, next_doc, tombstone}
+use Rattle.ep_model.specs.Answer.{Effect, Nothing, Puts, Sets, answer, apply}
 
 -- a call and an event without where their bytes lie
 abbrev pub call_data : Call → CallData
@@ -34,16 +37,35 @@ event_data (events.Asked ticket caller call) = Asked ticket caller (call_data ca
 event_data (events.ReadFailed ticket fault) = ReadFailed ticket fault
 event_data events.Opened = Opened
 
+-- What a call did by its reply alone: a call that may write put a document of which no more is known than its key and
+-- its numbers exactly where its reply has a number, and a state was set exactly with success.
+abbrev pub seen_put : World → ℕ → ℕ → Option (List ℕ) → Effect
+seen_put w now seqno None = Nothing
+seen_put w now seqno (Some key) = if seqno == 0 then Nothing else Puts key (next_doc w [] 0 0 false now)
+
+abbrev pub seen_effect : World → CallData → ℕ → Reply → Effect
+seen_effect w (SetState state) now reply = if reply.status == success then Sets state else Nothing
+seen_effect w call now reply = seen_put w now reply.seqno (written_key call)
+
+-- What a call did that was answered so: what its answer says where the documents are known.
+unfoldable pub call_effect : World → CallData → ℕ → Reply → Effect
+call_effect w call now reply = if w.told then (answer w call now).effect else seen_effect w call now reply
+
+-- what an event does to a world's documents and its state
+abbrev pub effect_of : World → EventData → Effect
+effect_of w (Called caller call now reply value) = call_effect w call now reply
+effect_of w (Expired key now) = Puts key (tombstone w now)
+effect_of w event = Nothing
+
+-- and what it notes there besides
+abbrev pub noted : World → EventData → World
+noted w (Persisted number) = record w { persisted = number }
+noted w Opened = record w { opened = true }
+noted w event = w
+
 -- the world after one more event
 abbrev pub step : World → EventData → World
-step w (Called caller call now reply value) = apply w (answer w call now).effect
-step w (Expired key now) = put w key (tombstone w now)
-step w (Persisted number) = record w { persisted = number }
-step w Opened = record w { opened = true }
-step w (Refused caller call now cause) = w
-step w (Marked stripe number) = w
-step w (Asked ticket caller call) = w
-step w (ReadFailed ticket fault) = w
+step w event = noted (apply w (effect_of w event)) event
 
 -- the world after a start and these events
 abbrev pub after : World → List EventData → World

@@ -4,9 +4,9 @@ use Rattle.ep_model.specs.declared.call.VbState.TheVariants.{Active}
 use Rattle.ep_model.specs.declared.call.StoreKind.TheVariants as kinds
 use Rattle.ep_model.specs.declared.data.CallData.TheVariants.{Get, Store}
 use Rattle.ep_model.specs.declared.data.EventData.{EventData}
-use Rattle.ep_model.specs.declared.status.TheConstants.{SUCCESS}
+use Rattle.ep_model.specs.Statuses.{success}
 use Rattle.ep_model.specs.World.{World, live, secs, stored_expiry}
-use Rattle.ep_model.specs.Answer.{Answer, Nothing, answer, apply}
+use Rattle.ep_model.specs.Answer.{Answer, Nothing, bare_reply, answer, apply}
 use Rattle.ep_model.specs.Decimal.{number_of}
 use Rattle.ep_model.specs.declared.config.Config.{Config}
 use Rattle.ep_model.specs.declared.data.FrontData.{FrontData}
@@ -28,7 +28,7 @@ BareFrontsAreLegal = (config : Config) (id : ℕ) (start : Option StartData) →
 
 -- what a Get is answered that finds this value
 abbrev pub found : List ℕ → ℕ → ℕ → Answer
-found value flags cas = record { reply = record { status = SUCCESS; cas = cas; flags = flags; uuid = 0; seqno = 0 }; value = value; effect = Nothing }
+found value flags cas = record { reply = record (bare_reply success) { cas = cas; flags = flags }; value = value; effect = Nothing }
 
 -- this world has the value under the key until it expires
 abbrev pub IsReadBack : World → List ℕ → List ℕ → ℕ → ℕ → ℕ → Type 0
@@ -42,7 +42,7 @@ KeepsOthers old new key = (other : List ℕ) (moment : ℕ) → other ≢ key �
 abbrev pub SetIsReadBack : Type 0
 SetIsReadBack =
     (w : World) (key value : List ℕ) (flags expiration cas now : ℕ) → w.opened ≡ true → w.state ≡ Active →
-    (answer w (Store kinds.Set key value flags expiration cas) now).reply.status ≡ SUCCESS →
+    (answer w (Store kinds.Set key value flags expiration cas) now).reply.status ≡ success →
     let given = answer w (Store kinds.Set key value flags expiration cas) now in
     IsReadBack (apply w given.effect) key value flags (stored_expiry expiration now) given.reply.cas
 
@@ -50,7 +50,7 @@ SetIsReadBack =
 abbrev pub SetKeepsOthers : Type 0
 SetKeepsOthers =
     (w : World) (key value : List ℕ) (flags expiration cas now : ℕ) → w.opened ≡ true → w.state ≡ Active →
-    (answer w (Store kinds.Set key value flags expiration cas) now).reply.status ≡ SUCCESS →
+    (answer w (Store kinds.Set key value flags expiration cas) now).reply.status ≡ success →
     KeepsOthers w (apply w (answer w (Store kinds.Set key value flags expiration cas) now).effect) key
 
 -- the text of a number below 2^64 is read as that number

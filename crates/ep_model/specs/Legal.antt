@@ -16,7 +16,9 @@ use Rattle.ep_model.specs.declared.data.FrontData.{FrontData}
 use Rattle.ep_model.specs.Stripes.{stripe_of}
 use Rattle.ep_model.specs.World.{Doc, World, secs, last_seqno}
 use Rattle.ep_model.specs.Answer.{answer}
-use Rattle.ep_model.specs.Needs.{key_of, needs}
+use Rattle.ep_model.specs.Calls.{key_of, has_key}
+use Rattle.ep_model.specs.Needs.{needs}
+use Rattle.ep_model.specs.Quota.{is_short}
 use Rattle.ep_model.specs.Front.{world_of, with_event, marked}
 
 -- calls on keys are served
@@ -28,45 +30,22 @@ pub record IsServing (w : World) : Type 0 where
 abbrev pub IsSilent : ℕ → EventData → Type 0
 IsSilent caller (Called other call now reply value) = other ≢ caller
 IsSilent caller (Refused other call now cause) = other ≢ caller
-IsSilent caller (Expired key now) = Unit {0}
-IsSilent caller (Persisted number) = Unit {0}
-IsSilent caller (Marked stripe number) = Unit {0}
-IsSilent caller (Asked ticket other call) = Unit {0}
-IsSilent caller (ReadFailed ticket fault) = Unit {0}
-IsSilent caller Opened = Unit {0}
+IsSilent caller event = Unit {0}
 
 -- the event refuses no call for what became of this ticket
 abbrev pub IsUnused : Ticket → EventData → Type 0
-IsUnused ticket (Called caller call now reply value) = Unit {0}
 IsUnused ticket (Refused caller call now cause) = (cause ≢ causes.Store ticket) × (cause ≢ causes.Memory ticket)
-IsUnused ticket (Expired key now) = Unit {0}
-IsUnused ticket (Persisted number) = Unit {0}
-IsUnused ticket (Marked stripe number) = Unit {0}
-IsUnused ticket (Asked other caller call) = Unit {0}
-IsUnused ticket (ReadFailed other fault) = Unit {0}
-IsUnused ticket Opened = Unit {0}
+IsUnused ticket event = Unit {0}
 
 -- a ticket that the event asked in this stripe is below this one
 abbrev pub IsBelow : Ticket → EventData → Type 0
-IsBelow ticket (Called caller call now reply value) = Unit {0}
-IsBelow ticket (Refused caller call now cause) = Unit {0}
-IsBelow ticket (Expired key now) = Unit {0}
-IsBelow ticket (Persisted number) = Unit {0}
-IsBelow ticket (Marked stripe number) = Unit {0}
 IsBelow ticket (Asked other caller call) = other.stripe ≡ ticket.stripe → other.number < ticket.number
-IsBelow ticket (ReadFailed other fault) = Unit {0}
-IsBelow ticket Opened = Unit {0}
+IsBelow ticket event = Unit {0}
 
 -- the event is no failed read of this number
 abbrev pub IsNoFault : ℕ → EventData → Type 0
-IsNoFault fault (Called caller call now reply value) = Unit {0}
-IsNoFault fault (Refused caller call now cause) = Unit {0}
-IsNoFault fault (Expired key now) = Unit {0}
-IsNoFault fault (Persisted number) = Unit {0}
-IsNoFault fault (Marked stripe number) = Unit {0}
-IsNoFault fault (Asked ticket caller call) = Unit {0}
 IsNoFault fault (ReadFailed ticket other) = other ≢ fault
-IsNoFault fault Opened = Unit {0}
+IsNoFault fault event = Unit {0}
 
 -- The caller asked at this ticket with this call, and no call of it was answered since; nor was any refused for
 -- what became of the ticket.
@@ -94,6 +73,7 @@ pub record HasAsked (events : List EventData) (ticket : Ticket) : Type 0 where
 -- The store failed at the read that this very call waited for.
 pub record IsStoreCause (f : FrontData) (ticket : Ticket) (caller : ℕ) (call : CallData) : Type 0 where
   pub serving : IsServing (world_of f)
+  pub keyed : has_key call ≡ true
   pub waits : WaitsAt f.events ticket caller call
   pub fault : ℕ
   pub failed : HasFailed f.events ticket fault
@@ -101,30 +81,42 @@ pub record IsStoreCause (f : FrontData) (ticket : Ticket) (caller : ℕ) (call :
 -- Memory was wanting at the read that this very call waited for.
 pub record IsMemoryCause (f : FrontData) (ticket : Ticket) (caller : ℕ) (call : CallData) : Type 0 where
   pub serving : IsServing (world_of f)
+  pub keyed : has_key call ≡ true
   pub waits : WaitsAt f.events ticket caller call
 
--- Why a call may be refused for now. Nothing is refused for want of room so far.
+-- What isn't stored yet leaves no room for what the call needs, as far as the documents are known.
+pub record IsQuotaCause (f : FrontData) (call : CallData) (now : ℕ) : Type 0 where
+  pub serving : IsServing (world_of f)
+  pub key : List ℕ
+  pub keyed : key_of call ≡ Some key
+  pub short : (world_of f).told ≡ true → is_short f key call now ≡ true
+
+-- Why a call may be refused for now. A call without a key is refused before the vBucket opens alone.
 abbrev pub Caused : FrontData → ℕ → CallData → ℕ → Cause → Type 0
-Caused f caller call now causes.Quota = ⊥
+Caused f caller call now causes.Quota = IsQuotaCause f call now
 Caused f caller call now causes.Warming = (world_of f).opened ≡ false
 Caused f caller call now (causes.Store ticket) = IsStoreCause f ticket caller call
 Caused f caller call now (causes.Memory ticket) = IsMemoryCause f ticket caller call
 
--- a call is answered as the world says
+-- a call is answered as the world says, as far as its documents are known
 pub record MayCall (w : World) (call : CallData) (now : ℕ) (reply : Reply) (value : List ℕ) : Type 0 where
   pub opened : w.opened ≡ true
-  pub reply_is : reply ≡ (answer w call now).reply
-  pub value_is : value ≡ (answer w call now).value
+  pub reply_is : w.told ≡ true → reply ≡ (answer w call now).reply
+  pub value_is : w.told ≡ true → value ≡ (answer w call now).value
 
--- a document is replaced by a tombstone once it is expired
-pub record MayExpire (w : World) (key : List ℕ) (now : ℕ) : Type 0 where
-  pub serving : IsServing w
-  pub room : w.high < last_seqno
+-- the document of the key stands, and is expired
+pub record IsExpired (w : World) (key : List ℕ) (now : ℕ) : Type 0 where
   pub doc : Doc
   pub found : map.get w.docs key ≡ Some doc
   pub stands : doc.deleted ≡ false
   pub ends : doc.expiry ≢ 0
   pub past : doc.expiry ≤ secs now
+
+-- a document is replaced by a tombstone once it is expired
+pub record MayExpire (w : World) (key : List ℕ) (now : ℕ) : Type 0 where
+  pub serving : IsServing w
+  pub room : w.high < last_seqno
+  pub expired : w.told ≡ true → IsExpired w key now
 
 -- what was stored goes on, and never beyond the last mutation
 pub record MayPersist (w : World) (number : ℕ) : Type 0 where
@@ -152,7 +144,7 @@ pub record MayAsk (f : FrontData) (ticket : Ticket) (call : CallData) : Type 0 w
   pub keyed : key_of call ≡ Some key
   pub here : ticket.stripe ≡ stripe_of key f.config.stripes
   pub above : AllByRecursion (IsBelow ticket) f.events
-  pub away : IsAway f.config.eviction (marked f ticket.stripe) (map.get (world_of f).docs key)
+  pub away : (world_of f).told ≡ true → IsAway f.config.eviction (marked f ticket.stripe) (map.get (world_of f).docs key)
 
 -- a failed read is told once, of a ticket that was asked
 pub record MayFail (f : FrontData) (ticket : Ticket) (fault : ℕ) : Type 0 where

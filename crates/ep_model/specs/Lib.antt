@@ -1,11 +1,17 @@
 pub mod Limits
+pub mod Counts
+pub mod Statuses
+pub mod Calls
 pub mod Config
 pub mod Stripes
 pub mod World
 pub mod Answer
 pub mod History
+pub mod Mutations
 pub mod Needs
 pub mod Front
+pub mod Checkpoints
+pub mod Quota
 pub mod Legal
 pub mod Decimal
 pub mod Refusals

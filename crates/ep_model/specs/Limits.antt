@@ -1,14 +1,24 @@
--- What a call may carry.
-use Rattle.std.specs.Prelude.{ℕ, ◌≤◌, List, length}
-use Rattle.ep_model.specs.declared.limits.TheConstants.{MAX_KEY, MAX_VALUE}
+-- What a call, a document and a moment may be.
+use Rattle.std.specs.Prelude.{ℕ, ◌≤◌, ◌<◌, ◌^◌, List, length}
 use Rattle.ep_model.specs.declared.data.CallData.{CallData}
-use Rattle.ep_model.specs.declared.data.CallData.TheVariants.{Get, Store, Join, Count, Delete, Touch, Observe, Failovers, SetState, GetState}
+use Rattle.ep_model.specs.declared.data.CallData.TheVariants.{Get, Store, Join, Count, Delete, Touch}
+
+-- the greatest lengths of a key and of a value in bytes
+abbrev pub max_key : ℕ
+max_key = 250
+
+abbrev pub max_value : ℕ
+max_value = 1048576
 
 abbrev pub IsKey : List ℕ → Type 0
-IsKey key = (1 ≤ length key) × (length key ≤ MAX_KEY)
+IsKey key = (1 ≤ length key) × (length key ≤ max_key)
 
 abbrev pub IsValue : List ℕ → Type 0
-IsValue value = length value ≤ MAX_VALUE
+IsValue value = length value ≤ max_value
+
+-- a moment in nanoseconds since 1970 at which a call may be made
+abbrev pub IsMoment : ℕ → Type 0
+IsMoment now = now < 2 ^ 62
 
 -- the key and the value of a call are within their limits
 abbrev pub IsWithin : CallData → Type 0
@@ -18,7 +28,4 @@ IsWithin (Join front key value cas) = IsKey key × IsValue value
 IsWithin (Count down key delta initial expiration cas) = IsKey key
 IsWithin (Delete key cas) = IsKey key
 IsWithin (Touch key expiration fetch) = IsKey key
-IsWithin (Observe uuid) = Unit {0}
-IsWithin Failovers = Unit {0}
-IsWithin (SetState state) = Unit {0}
-IsWithin GetState = Unit {0}
+IsWithin call = Unit {0}

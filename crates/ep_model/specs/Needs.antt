@@ -1,4 +1,4 @@
--- Which document a call is on, and whether it needs the old one.
+-- Whether a call needs the old document, and how many blocks it takes of memory.
 use Rattle.std.specs.Prelude.{ℕ, Bool, true, false, not, ◌==◌, List, Option, Some, None}
 use Rattle.ep_model.specs.declared.call.StoreKind.{StoreKind}
 use Rattle.ep_model.specs.declared.call.StoreKind.TheVariants.{Set, Add, Replace}
@@ -6,18 +6,6 @@ use Rattle.ep_model.specs.declared.config.Eviction.{Eviction}
 use Rattle.ep_model.specs.declared.config.Eviction.TheVariants.{Value, Full}
 use Rattle.ep_model.specs.declared.data.CallData.{CallData}
 use Rattle.ep_model.specs.declared.data.CallData.TheVariants as calls
-
-abbrev pub key_of : CallData → Option (List ℕ)
-key_of (calls.Get key) = Some key
-key_of (calls.Store kind key value flags expiration cas) = Some key
-key_of (calls.Join front key value cas) = Some key
-key_of (calls.Count down key delta initial expiration cas) = Some key
-key_of (calls.Delete key cas) = Some key
-key_of (calls.Touch key expiration fetch) = Some key
-key_of (calls.Observe uuid) = None
-key_of calls.Failovers = None
-key_of (calls.SetState state) = None
-key_of calls.GetState = None
 
 -- Under full eviction what memory has of a document may be nothing, so that a call which goes by the old one's CAS,
 -- or by whether there is one, needs it.
@@ -39,7 +27,4 @@ needs eviction (calls.Join front key value cas) = true
 needs eviction (calls.Count down key delta initial expiration cas) = true
 needs eviction (calls.Delete key cas) = needs_delete eviction
 needs eviction (calls.Touch key expiration fetch) = true
-needs eviction (calls.Observe uuid) = false
-needs eviction calls.Failovers = false
-needs eviction (calls.SetState state) = false
-needs eviction calls.GetState = false
+needs eviction call = false

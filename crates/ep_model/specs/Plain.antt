@@ -1,44 +1,35 @@
--- What the plain map's list of documents stands for.
-use Rattle.std.specs.Prelude.{◌≡◌, ◌≢◌, ℕ, ◌+◌, ◌≤◌, ◌<◌, ◌^◌, true, List, [], ◌++◌, length, map, Option, Some, None, Result, Ok, Err}
+-- What the plain map's documents stand for.
+use Rattle.std.specs.Prelude.{◌≡◌, ◌≢◌, ℕ, ◌+◌, ◌≤◌, ◌<◌, ◌^◌, true, List, [], ◌++◌, length, map, Vec, Option, Some, None, Result, Ok, Err}
 use Rattle.std.specs.FinMap as finmap
-use Rattle.std.specs.List.{position_from}
-use Rattle.std.specs.Str.{bytes_eq}
+use Rattle.std.specs.Global.{Global}
 use Rattle.ep_model.specs.declared.call.VbState.{VbState}
 use Rattle.ep_model.specs.declared.call.Reply.{Reply}
 use Rattle.ep_model.specs.declared.data.OutData.{OutData}
 use Rattle.ep_model.specs.declared.document.Document.{Document}
 use Rattle.ep_model.specs.declared.memory.NoMemory.{NoMemory}
-use Rattle.ep_model.specs.World.{Doc, Docs, World}
+use Rattle.ep_model.specs.World.{Doc, Docs, World, blank_doc, empty_world}
 use Rattle.ep_model.specs.Answer.{Answer, Nothing, apply}
 
 -- a document without where its bytes lie
 abbrev pub doc_of : Document → Doc
-doc_of d = record { value = d.value.items; flags = d.flags; expiry = d.expiry; cas = d.cas; seqno = d.seqno; deleted = d.deleted }
+doc_of d = record blank_doc { value = d.value.items; flags = d.flags; expiry = d.expiry; cas = d.cas; seqno = d.seqno; deleted = d.deleted }
 
 -- a document under its key
-abbrev pub entry_of : Document → List ℕ × Doc
-entry_of d = (d.key.items, doc_of d)
+abbrev pub entry_of : Vec ℕ Global × Document → List ℕ × Doc
+entry_of e = (e.0.items, doc_of e.1)
 
--- the documents by their keys; of two under one key the first counts
-abbrev pub docs_of : List Document → Docs
-docs_of documents = finmap.from_entries (map entry_of documents)
-
--- where the first document of a key stands
-abbrev pub place_of : List Document → List ℕ → Option ℕ
-place_of documents key = position_from (λ (d : Document). bytes_eq d.key.items key) 0 documents
+-- the documents by their keys
+abbrev pub docs_of : List (Vec ℕ Global × Document) → Docs
+docs_of entries = finmap.from_entries (map entry_of entries)
 
 -- the world of a vBucket that is open, without failovers and with nothing stored
-abbrev pub world_of : ℕ → ℕ → VbState → List Document → ℕ → ℕ → World
-world_of id fit state documents high maxcas = record {
-  id = id;
-  docs = docs_of documents;
+abbrev pub world_of : ℕ → ℕ → VbState → List (Vec ℕ Global × Document) → ℕ → ℕ → World
+world_of id fit state entries high maxcas = record (empty_world id fit) {
+  docs = docs_of entries;
   high = high;
   maxcas = maxcas;
   state = state;
-  failovers = [];
-  persisted = 0;
   opened = true;
-  fit = fit;
 }
 
 -- the numbers leave room for the next ones

@@ -4,7 +4,10 @@ use Rattle.std.specs.Ordering.{nat_cmp}
 use Rattle.std.specs.Cmp.Lexicographic.{slice_cmp}
 use Rattle.std.specs.FinMap as map
 use Rattle.std.specs.FinMap.{FinMap}
+use Rattle.ep_model.specs.declared.call.Meta.{Meta}
 use Rattle.ep_model.specs.declared.call.VbState.{VbState}
+use Rattle.ep_model.specs.declared.config.Eviction.{Eviction}
+use Rattle.ep_model.specs.declared.config.Eviction.TheVariants.{Value}
 use Rattle.ep_model.specs.declared.data.DocData.{DocData}
 use Rattle.ep_model.specs.declared.call.VbState.TheVariants.{Active}
 
@@ -15,8 +18,21 @@ Doc = DocData
 abbrev pub Docs : Type 0
 Docs = FinMap (slice_cmp nat_cmp) Doc
 
--- `id` is the vBucket's, `fit` the number of blocks that a document may take at most, `failovers` pairs of a uuid
--- and a sequence number, newest first.
+-- a document of which nothing is known yet
+abbrev pub blank_doc : Doc
+blank_doc = record { value = []; flags = 0; expiry = 0; cas = 0; seqno = 0; deleted = false }
+
+-- what stands of a document beside its value, and a document of that and a value
+abbrev pub meta_of : Doc → Meta
+meta_of doc = record { flags = doc.flags; expiry = doc.expiry; cas = doc.cas; seqno = doc.seqno; deleted = doc.deleted; len = length doc.value }
+
+abbrev pub doc_from : Meta → List ℕ → Doc
+doc_from meta value = record blank_doc { value = value; flags = meta.flags; expiry = meta.expiry; cas = meta.cas; seqno = meta.seqno; deleted = meta.deleted }
+
+-- `id` is the vBucket's, `failovers` pairs of a uuid and a sequence number, newest first. What the bucket's layout
+-- fixes is the number of `stripes`, the `eviction`, and as `fit` the number of blocks that a document may take at
+-- most. `told` says whether the documents are known: a store that doesn't tell its content gives a start that isn't
+-- told, and then the events alone say what they did.
 pub record World : Type 0 where
   pub id : ℕ
   pub docs : Docs
@@ -26,11 +42,27 @@ pub record World : Type 0 where
   pub failovers : List (ℕ × ℕ)
   pub persisted : ℕ
   pub opened : Bool
+  pub told : Bool
+  pub stripes : ℕ
+  pub eviction : Eviction
   pub fit : ℕ
 
--- active, and nothing else yet
+-- told and active, of one stripe under value eviction, and nothing else yet
 abbrev pub empty_world : ℕ → ℕ → World
-empty_world id fit = record { id = id; docs = map.empty; high = 0; maxcas = 0; state = Active; failovers = []; persisted = 0; opened = false; fit = fit }
+empty_world id fit = record {
+  id = id;
+  docs = map.empty;
+  high = 0;
+  maxcas = 0;
+  state = Active;
+  failovers = [];
+  persisted = 0;
+  opened = false;
+  told = true;
+  stripes = 1;
+  eviction = Value;
+  fit = fit;
+}
 
 -- a moment's seconds since 1970
 abbrev pub secs : ℕ → ℕ
@@ -63,8 +95,9 @@ stored_expiry expiration now =
 abbrev pub blocks : ℕ → ℕ
 blocks n = (n + 127) / 128
 
-abbrev pub doc_blocks : List ℕ → List ℕ → ℕ
-doc_blocks key value = blocks (length key) + blocks (length value)
+-- how many a document takes under its key
+abbrev pub doc_blocks : List ℕ → Doc → ℕ
+doc_blocks key doc = blocks (length key) + blocks (length doc.value)
 
 -- the greatest sequence number
 abbrev pub last_seqno : ℕ
@@ -77,7 +110,7 @@ uuid_of (entry ∷ older) = entry.0
 
 -- a document that takes the next CAS and the next sequence number
 abbrev pub next_doc : World → List ℕ → ℕ → ℕ → Bool → ℕ → Doc
-next_doc w value flags expiry deleted now = record { value = value; flags = flags; expiry = expiry; cas = stamp w now; seqno = w.high + 1; deleted = deleted }
+next_doc w value flags expiry deleted now = record blank_doc { value = value; flags = flags; expiry = expiry; cas = stamp w now; seqno = w.high + 1; deleted = deleted }
 
 -- what is left of a document that is deleted or removed
 abbrev pub tombstone : World → ℕ → Doc

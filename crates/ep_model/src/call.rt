@@ -97,12 +97,12 @@ pub struct Meta {
 
 impl Reply {
     ghost use Rattle.std.specs.Prelude.{◌≡◌};
-    ghost use Rattle.std.specs.Prelude.{[]};
-    ghost use Rattle.ep_model.specs.Answer.{refused, shows};
+    ghost use Rattle.ep_model.specs.Answer.{bare_reply};
+    ghost use Rattle.ep_model.specs.Statuses.{success};
 
     /// A status alone.
     pub fn refusal(status: u16) -> Reply
-        ensures { result ≡ (refused status).reply }
+        ensures { result ≡ bare_reply status }
     {
         Reply {
             status,
@@ -114,7 +114,7 @@ impl Reply {
     }
     /// Success alone.
     pub fn success() -> Reply
-        ensures { result ≡ (shows 0 0 []).reply }
+        ensures { result ≡ bare_reply success }
     {
         Reply::refusal(SUCCESS)
     }
@@ -139,7 +139,7 @@ impl VbState {
 
 impl Call<'_> {
     ghost use Rattle.std.specs.Prelude.{◌≡◌};
-    ghost use Rattle.ep_model.specs.Refusals.{has_key};
+    ghost use Rattle.ep_model.specs.Calls.{has_key};
     ghost use Rattle.ep_model.specs.History.{call_data};
 
     /// Whether the call is on a key, and not on the vBucket as a whole.

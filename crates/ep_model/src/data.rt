@@ -104,8 +104,10 @@ pub struct DocData {
 }
 
 /// What a vBucket's history begins with: its documents under their keys, its greatest numbers, and its
-/// failover table, pairs of a uuid and a sequence number, newest first. All of it is stored.
+/// failover table, pairs of a uuid and a sequence number, newest first. All of it is stored. It is `told` where
+/// the store tells its content: else nothing is known of the documents.
 pub struct StartData {
+    pub told: bool,
     pub docs: LinkedList<(LinkedList<u8>, DocData)>,
     pub high: u64,
     pub maxcas: u64,
@@ -119,4 +121,16 @@ pub struct FrontData {
     pub id: u16,
     pub start: Option<StartData>,
     pub events: LinkedList<EventData>,
+}
+
+/// A checkpoint of a vBucket: documents under different keys, in the order in which they were put.
+pub struct CheckpointData {
+    pub id: u64,
+    pub items: LinkedList<(LinkedList<u8>, DocData)>,
+}
+
+/// The checkpoints of a vBucket: the closed ones, the oldest first, and the one into which mutations go.
+pub struct CheckpointsData {
+    pub closed: LinkedList<CheckpointData>,
+    pub last: CheckpointData,
 }

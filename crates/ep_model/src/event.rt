@@ -1,4 +1,5 @@
 // What happens to a vBucket, one event at a time.
+use crate::status::{OUT_OF_MEMORY, TEMPORARY_FAILURE};
 use crate::{Call, Reply};
 
 /// A place in which a stripe waits for its store: the stripe and a number that rises there.
@@ -19,6 +20,21 @@ pub enum Cause {
     Store(Ticket),
     /// Memory was wanting at this ticket's read.
     Memory(Ticket),
+}
+
+impl Cause {
+    ghost use Rattle.std.specs.Prelude.{◌≡◌};
+    ghost use Rattle.ep_model.specs.Statuses.{status_of};
+
+    /// The status by which a caller is told of the refusal: that memory is wanting, or else that it is for now.
+    pub fn status(self) -> u16
+        ensures { result ≡ status_of self }
+    {
+        match self {
+            Cause::Memory(_) => OUT_OF_MEMORY,
+            Cause::Quota | Cause::Warming | Cause::Store(_) => TEMPORARY_FAILURE,
+        }
+    }
 }
 
 /// An event of one vBucket's history. Moments are nanoseconds since 1970.

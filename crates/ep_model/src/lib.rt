@@ -19,7 +19,9 @@ mod stripes;
 
 pub use call::{Call, Meta, Reply, StoreKind, VbState};
 pub use config::{Config, Eviction, Field, OpenFault};
-pub use data::{CallData, DocData, EventData, FrontData, OutData, StartData};
+pub use data::{
+    CallData, CheckpointData, CheckpointsData, DocData, EventData, FrontData, OutData, StartData,
+};
 pub use event::{Busy, Cause, Event, PartName, Phase, Ticket};
 pub use memory::NoMemory;
 pub use out::Out;

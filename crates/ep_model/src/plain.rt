@@ -1,4 +1,4 @@
-// The plain map: the program that the definitions describe, over a flat list of documents. It is the oracle of
+// The plain map: the program that the definitions describe, over a hash map of documents. It is the oracle of
 // tests, and for now what a session serves.
 mod counters;
 mod documents;
@@ -10,32 +10,34 @@ ghost use Rattle.std.specs.Prelude.{◌≡◌, ◌≢◌, ◌+◌, ◌≤◌, �
 ghost use Rattle.std.specs.FinMap as finmap;
 ghost use Rattle.std.specs.Option.{option_map, option_copied};
 ghost use Rattle.ep_model.specs.World.{empty_world, live, next_doc};
-ghost use Rattle.ep_model.specs.Limits.{IsWithin};
+ghost use Rattle.ep_model.specs.Limits.{IsWithin, max_value};
 ghost use Rattle.ep_model.specs.Refusals.{number_refusal};
 ghost use Rattle.ep_model.specs.Answer.{Nothing, answer, answer_row, apply, cas_of, put_success};
 ghost use Rattle.ep_model.specs.History.{call_data};
 ghost use Rattle.ep_model.specs.Plain.{Does, Serves, doc_of, value_of};
-ghost use Rattle.ep_model.specs.declared.limits.TheConstants.{MAX_VALUE};
 
 use crate::document::{Document, Draft};
 use crate::limits::MAX_VALUE;
 use crate::{Call, NoMemory, Out, Reply, VbState, decimal, rules, status};
-use documents::{live_at, position_of, put_document};
+use documents::{Documents, document_of, live_of, put_document};
 use std::alloc::Global;
+use std::collections::HashMap;
 use std::marker::Model;
 
 /// How many blocks a document may take at most.
 const FIT: u32 = 16_777_216;
 
 /// The plain map of one vBucket that is open, under value eviction, with an empty failover table and nothing
-/// stored. A call's cost is linear in the number of documents and in the lengths of its key and value.
+/// stored. A call looks its key up in a hash map at most three times, and copies a key only where it stores the first
+/// document of it. So a call's cost is linear in the lengths of its key and value, but for the hash map, which moves
+/// its entries as it grows and has no bound for keys that all collide.
 #[derive(Drop)]
 pub struct Plain {
     alloc: Global,
     id: u16,
     fit: u32,
     state: VbState,
-    documents: Vec<Document>,
+    documents: Documents,
     high: u64,
     maxcas: u64,
 }
@@ -49,22 +51,22 @@ impl Model for Plain {
 
     ghost coded = { coded_world };
 
-    ghost view = { λ p. world_of p.id p.fit p.state p.documents.items p.high p.maxcas };
+    ghost view = { λ p. world_of p.id p.fit p.state p.documents.entries p.high p.maxcas };
 
     ghost invariant = { λ p. IsSound p.high p.maxcas };
 }
 
 impl Plain {
-    /// The vBucket of this id, active and with no document yet.
-    pub fn new(alloc: Global, id: u16) -> Plain
-        ensures { result ≡ record (empty_world id FIT) { opened = true } }
+    /// The vBucket 0, active and with no document yet.
+    pub fn new(alloc: Global) -> Plain
+        ensures { result ≡ record (empty_world 0 FIT) { opened = true } }
     {
         Plain {
             alloc,
-            id,
+            id: 0,
             fit: FIT,
             state: VbState::Active,
-            documents: Vec::new(alloc),
+            documents: HashMap::new(alloc),
             high: 0,
             maxcas: 0,
         }
@@ -74,7 +76,7 @@ impl Plain {
     pub fn answer(&mut self, call: &Call, now: u64, value: &mut Out) -> Result<Reply, NoMemory>
         requires moment { now < 2 ^ 62 }
         requires within { IsWithin (call_data call.now) }
-        requires spare { MAX_VALUE ≤ value.old.spare }
+        requires spare { max_value ≤ value.old.spare }
 
         ensures reply { IfOk result (λ reply. reply ≡ (answer self.old (call_data call.now) now).reply) }
         ensures value { OnOk result (value.new.bytes ≡ value.old.bytes ++ (answer self.old (call_data call.now) now).value) }
@@ -95,7 +97,7 @@ impl Plain {
     fn answer_row(&mut self, call: &Call, now: u64, value: &mut Out) -> Result<Reply, NoMemory>
         requires moment { now < 2 ^ 62 }
         requires within { IsWithin (call_data call.now) }
-        requires spare { MAX_VALUE ≤ value.old.spare }
+        requires spare { max_value ≤ value.old.spare }
         ensures { Serves (answer_row self.old (call_data call.now) now) self.old self.new value.old value.new result }
     {
         match *call {
@@ -159,8 +161,7 @@ impl Plain {
     fn live(&self, key: &[u8], now: u64) -> Option<&Document>
         ensures { option_map doc_of (option_copied result) ≡ live self.now key.now now }
     {
-        let place = position_of(&self.documents, key);
-        live_at(&self.documents, place, now)
+        live_of(document_of(&self.documents, key), now)
     }
 
     /// The CAS of the live document of a key.
@@ -180,19 +181,19 @@ impl Plain {
     /// A number's text.
     fn text(&self, number: u64) -> Result<Vec<u8>, NoMemory>
         ensures text { IfOk result (λ v. v.items ≡ decimal number) }
-        ensures short { IfOk result (λ v. length v.items ≤ MAX_VALUE) }
+        ensures short { IfOk result (λ v. length v.items ≤ max_value) }
     {
         decimal::text_of(self.alloc, number)
     }
 
     /// Appends the value of the document of a key, live or not.
     fn show_value(&self, key: &[u8], value: &mut Out)
-        requires { MAX_VALUE ≤ value.old.spare }
+        requires { max_value ≤ value.old.spare }
         ensures bytes { value.new.bytes ≡ value.old.bytes ++ value_of (finmap.get self.now.docs key.now) }
         ensures room { value.new.spare + length value.new.bytes ≡ value.old.spare + length value.old.bytes }
     {
-        if let Some(place) = position_of(&self.documents, key) {
-            value.push(&self.documents[place].value);
+        if let Some(document) = document_of(&self.documents, key) {
+            value.push(&document.value);
         }
     }
 
@@ -204,9 +205,8 @@ impl Plain {
     {
         let cas = rules::stamp(self.maxcas, now);
         let seqno = self.high + 1;
-        let place = position_of(&self.documents, key);
-        let key = key.to_vec(self.alloc)?;
-        put_document(&mut self.documents, place, draft.document(key, cas, seqno))?;
+        let document = draft.document(cas, seqno);
+        put_document(&mut self.documents, self.alloc, key, document)?;
         self.high = seqno;
         self.maxcas = cas;
         Ok(Reply {

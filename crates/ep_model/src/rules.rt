@@ -1,6 +1,6 @@
 //! The rules on numbers: moments, expiries, CAS values, sequence numbers and blocks.
-ghost use Rattle.std.specs.Prelude.{◌≡◌, ◌+◌, ◌<◌, ◌^◌, []};
-ghost use Rattle.ep_model.specs.World.{secs, is_live, stamp, stored_expiry, blocks, doc_blocks, empty_world};
+ghost use Rattle.std.specs.Prelude.{◌≡◌, ◌+◌, ◌<◌, ◌^◌};
+ghost use Rattle.ep_model.specs.World.{secs, is_live, stamp, stored_expiry, blocks, blank_doc, empty_world};
 ghost use Rattle.ep_model.specs.Refusals.{state_refusal, size_refusal, join_refusal, cas_refusal, wanted_refusal, store_refusal, new_count_refusal, number_refusal};
 ghost use Rattle.ep_model.specs.Answer.{counted};
 
@@ -26,7 +26,7 @@ pub fn seconds(now: u64) -> u64
 
 /// Whether a document with this mark and this expiry is live at a moment in nanoseconds.
 pub fn is_live(deleted: bool, expiry: u32, now: u64) -> bool
-    ensures { result ≡ is_live (record { value = []; flags = 0; expiry = expiry; cas = 0; seqno = 0; deleted = deleted }) now }
+    ensures { result ≡ is_live (record blank_doc { expiry = expiry; deleted = deleted }) now }
 {
     !deleted && (expiry == 0 || seconds(now) < u64::from(expiry))
 }
@@ -60,13 +60,6 @@ pub fn blocks(len: usize) -> usize
     ensures { result ≡ blocks len }
 {
     (len + (BLOCK - 1)) / BLOCK
-}
-
-/// How many blocks a document of this key and this value takes.
-pub fn document_blocks(key: &[u8], value: &[u8]) -> usize
-    ensures { result ≡ doc_blocks key.now value.now }
-{
-    blocks(key.len()) + blocks(value.len())
 }
 
 /// The status by which a request's CAS is refused beside that of the live document, if it is refused. A CAS

@@ -76,7 +76,7 @@ fn expect(
 #[test]
 fn answers_stores_and_gets(rt: HostRuntime) -> Result<(), Fail> {
     let alloc = rt.alloc();
-    let mut plain = Plain::new(alloc, 0);
+    let mut plain = Plain::new(alloc);
     for (kind, key, cas, wanted) in [
         (
             StoreKind::Set,
@@ -140,7 +140,7 @@ fn answers_stores_and_gets(rt: HostRuntime) -> Result<(), Fail> {
 #[test]
 fn joins_and_deletes(rt: HostRuntime) -> Result<(), Fail> {
     let alloc = rt.alloc();
-    let mut plain = Plain::new(alloc, 0);
+    let mut plain = Plain::new(alloc);
     store(alloc, &mut plain, StoreKind::Set, b"Hello", b"World", 0, 0)?;
     for (front, key, cas, wanted) in [
         (false, b"x".as_slice(), 0, reply(0x05, 0, 0, 0)),
@@ -181,7 +181,7 @@ fn joins_and_deletes(rt: HostRuntime) -> Result<(), Fail> {
 #[test]
 fn touches_only_where_the_expiry_differs(rt: HostRuntime) -> Result<(), Fail> {
     let alloc = rt.alloc();
-    let mut plain = Plain::new(alloc, 0);
+    let mut plain = Plain::new(alloc);
     store(alloc, &mut plain, StoreKind::Set, b"Hello", b"World", 0, 0)?;
     for (expiration, fetch, value, wanted) in [
         (0, false, b"".as_slice(), reply(0x00, CAS, 0, 0)),
@@ -228,7 +228,7 @@ fn count(down: bool, delta: u64, expiration: u32) -> Call<'static>
 #[test]
 fn counts(rt: HostRuntime) -> Result<(), Fail> {
     let alloc = rt.alloc();
-    let mut plain = Plain::new(alloc, 0);
+    let mut plain = Plain::new(alloc);
     let found = Call::Get { key: b"n" };
     for (expiration, value, wanted) in [
         (0xffff_ffff, b"".as_slice(), reply(0x01, 0, 0, 0)),
@@ -249,7 +249,7 @@ fn counts(rt: HostRuntime) -> Result<(), Fail> {
         (b"3", true, 5, b"\0\0\0\0\0\0\0\0", b"0"),
         (b"00300", true, 5, b"\0\0\0\0\0\0\x01\x27", b"295"),
     ] {
-        let mut plain = Plain::new(alloc, 0);
+        let mut plain = Plain::new(alloc);
         assert!(rt; text.len() <= 20);
         store(alloc, &mut plain, StoreKind::Set, b"n", text, 0, 0)?;
         let call = count(down, delta, 0);
@@ -283,7 +283,7 @@ fn counts_on_numbers_alone(rt: HostRuntime) -> Result<(), Fail> {
         b"18446744073709551616",
         b"000000000000000000001",
     ] {
-        let mut plain = Plain::new(alloc, 0);
+        let mut plain = Plain::new(alloc);
         assert!(rt; text.len() <= 21);
         store(alloc, &mut plain, StoreKind::Set, b"n", text, 0, 0)?;
         let call = count(false, 1, 0);
@@ -295,7 +295,7 @@ fn counts_on_numbers_alone(rt: HostRuntime) -> Result<(), Fail> {
 #[test]
 fn only_an_active_vbucket_has_keys(rt: HostRuntime) -> Result<(), Fail> {
     let alloc = rt.alloc();
-    let mut plain = Plain::new(alloc, 0x0102);
+    let mut plain = Plain::new(alloc);
     store(alloc, &mut plain, StoreKind::Set, b"Hello", b"World", 0, 0)?;
     let hello = Call::Get { key: b"Hello" };
     let done = reply(0x00, 0, 0, 0);
@@ -329,7 +329,7 @@ fn only_an_active_vbucket_has_keys(rt: HostRuntime) -> Result<(), Fail> {
         expect(&rt, alloc, &mut plain, Call::GetState, code, done)?;
         expect(&rt, alloc, &mut plain, hello, value, wanted)?;
     }
-    let numbers = b"\0\x01\x02\0\0\0\0\0\0\0\0\0\0\0\0\0\0\0\0\0\0\0\0\0\0\0\x01";
+    let numbers = b"\0\0\0\0\0\0\0\0\0\0\0\0\0\0\0\0\0\0\0\0\0\0\0\0\0\0\x01";
     expect(
         &rt,
         alloc,
@@ -361,7 +361,7 @@ fn documents_expire(rt: HostRuntime) -> Result<(), Fail> {
         (2_592_000, 1_002_592_000, 0x01),
         (2_592_001, 1_000_000_000, 0x01),
     ] {
-        let mut plain = Plain::new(alloc, 0);
+        let mut plain = Plain::new(alloc);
         store(
             alloc,
             &mut plain,

@@ -3,7 +3,7 @@ ghost use Rattle.std.specs.Prelude.{◌≡◌, ◌<◌, ◌≤◌, ◌^◌, deci
 ghost use Rattle.ep_model.specs.World.{live};
 ghost use Rattle.ep_model.specs.Answer.{answer_count, counts};
 ghost use Rattle.ep_model.specs.Plain.{Serves};
-ghost use Rattle.ep_model.specs.declared.limits.TheConstants.{MAX_VALUE};
+ghost use Rattle.ep_model.specs.Limits.{max_value};
 
 use super::Plain;
 use crate::document::Draft;
@@ -22,7 +22,7 @@ impl Plain {
         value: &mut Out,
     ) -> Result<Reply, NoMemory>
         requires moment { now < 2 ^ 62 }
-        requires spare { MAX_VALUE ≤ value.old.spare }
+        requires spare { max_value ≤ value.old.spare }
         ensures { Serves (answer_count down self.old key.now delta initial expiration cas now (live self.old key.now now)) self.old self.new value.old value.new result }
     {
         let Some(found) = self.live(key, now) else {
@@ -55,7 +55,7 @@ impl Plain {
         value: &mut Out,
     ) -> Result<Reply, NoMemory>
         requires moment { now < 2 ^ 62 }
-        requires spare { MAX_VALUE ≤ value.old.spare }
+        requires spare { max_value ≤ value.old.spare }
         ensures { Serves (counts self.old key.now number flags expiry now) self.old self.new value.old value.new result }
     {
         if let Some(refused) = self.number_refusal() {

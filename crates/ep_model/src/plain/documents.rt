@@ -1,27 +1,29 @@
-// The plain map's list of documents.
-ghost use Rattle.std.specs.Prelude.{◌≡◌, ◌<◌, length, OnOk, OnErr, option_and_then, slice_get};
-ghost use Rattle.std.specs.Option.{option_map, option_copied, ForSome};
+// The plain map's documents by their keys.
+ghost use Rattle.std.specs.Prelude.{◌≡◌, IfOk, OnOk, OnErr};
+ghost use Rattle.std.specs.Option.{option_map, option_copied};
 ghost use Rattle.std.specs.FinMap as finmap;
 ghost use Rattle.ep_model.specs.World.{live_of};
-ghost use Rattle.ep_model.specs.Plain.{doc_of, docs_of, place_of};
+ghost use Rattle.ep_model.specs.Plain.{doc_of, docs_of};
 
 use crate::document::Document;
 use crate::{NoMemory, rules};
+use std::alloc::Global;
+use std::collections::HashMap;
 
-/// The place of the first document of a key.
-pub(super) fn position_of(documents: &[Document], key: &[u8]) -> Option<usize>
-    ensures place { result ≡ place_of documents.now key.now }
-    ensures within { ForSome result (λ i. i < length documents.now) }
+pub(super) type Documents = HashMap<Vec<u8>, Document>;
+
+/// The document of a key, live or not.
+pub(super) fn document_of<'a>(documents: &'a Documents, key: &[u8]) -> Option<&'a Document>
+    ensures { option_map doc_of (option_copied result) ≡ finmap.get (docs_of documents.now.entries) key.now }
 {
-    documents.iter().position(|d| d.key.as_slice() == key)
+    documents.get(key)
 }
 
-/// The document at a place, if it is live.
-pub(super) fn live_at(documents: &[Document], place: Option<usize>, now: u64) -> Option<&Document>
-    requires { ForSome place (λ i. i < length documents.now) }
-    ensures { option_map doc_of (option_copied result) ≡ live_of (option_map doc_of (option_and_then (slice_get documents.now) place)) now }
+/// A document, if it is live.
+pub(super) fn live_of(document: Option<&Document>, now: u64) -> Option<&Document>
+    ensures { option_map doc_of (option_copied result) ≡ live_of (option_map doc_of (option_copied document.entry)) now }
 {
-    let document = &documents[place?];
+    let document = document?;
     if rules::is_live(document.deleted, document.expiry, now) {
         Some(document)
     } else {
@@ -29,19 +31,27 @@ pub(super) fn live_at(documents: &[Document], place: Option<usize>, now: u64) ->
     }
 }
 
-/// Puts a document in place of the one of its key, or at the end where there is none.
+/// A copy of these bytes.
+pub(super) fn copy(alloc: Global, bytes: &[u8]) -> Result<Vec<u8>, NoMemory>
+    ensures { IfOk result (λ v. v.items ≡ bytes.now) }
+{
+    Ok(bytes.to_vec(alloc)?)
+}
+
+/// Puts a document in place of the one of its key, whose key stays, or under a copy of the key where there is none.
 pub(super) fn put_document(
-    documents: &mut Vec<Document>,
-    place: Option<usize>,
+    documents: &mut Documents,
+    alloc: Global,
+    key: &[u8],
     document: Document,
 ) -> Result<(), NoMemory>
-    requires { place ≡ place_of documents.old.items document.key.items }
-    ensures ok { OnOk result (docs_of documents.new.items ≡ finmap.insert (docs_of documents.old.items) document.key.items (doc_of document)) }
-    ensures err { OnErr result (documents.new.items ≡ documents.old.items) }
+    ensures ok { OnOk result (docs_of documents.new.entries ≡ finmap.insert (docs_of documents.old.entries) key.now (doc_of document)) }
+    ensures err { OnErr result (documents.new.entries ≡ documents.old.entries) }
 {
-    match place {
-        Some(place) => documents[place] = document,
-        None => documents.push(document)?,
+    if let Some(place) = documents.get_mut(key) {
+        *place = document;
+        return Ok(());
     }
+    documents.insert(copy(alloc, key)?, document)?;
     Ok(())
 }

@@ -5,7 +5,7 @@ ghost use Rattle.ep_model.specs.World.{live, next_doc};
 ghost use Rattle.ep_model.specs.Refusals.{number_refusal};
 ghost use Rattle.ep_model.specs.Answer.{answer_get, answer_touch, put_success, shown_flags, shown_value, shows};
 ghost use Rattle.ep_model.specs.Plain.{Serves, doc_of, value_of};
-ghost use Rattle.ep_model.specs.declared.limits.TheConstants.{MAX_VALUE};
+ghost use Rattle.ep_model.specs.Limits.{max_value};
 
 use super::Plain;
 use crate::document::{Document, Draft};
@@ -14,7 +14,7 @@ use crate::{NoMemory, Out, Reply, rules, status};
 
 impl Plain {
     pub(super) fn get(&self, key: &[u8], now: u64, value: &mut Out) -> Reply
-        requires { MAX_VALUE ≤ value.old.spare }
+        requires { max_value ≤ value.old.spare }
         ensures reply { result ≡ (answer_get (live self.now key.now now)).reply }
         ensures value { value.new.bytes ≡ value.old.bytes ++ (answer_get (live self.now key.now now)).value }
         ensures room { value.new.spare + length value.new.bytes ≡ value.old.spare + length value.old.bytes }
@@ -34,7 +34,7 @@ impl Plain {
         value: &mut Out,
     ) -> Result<Reply, NoMemory>
         requires moment { now < 2 ^ 62 }
-        requires spare { MAX_VALUE ≤ value.old.spare }
+        requires spare { max_value ≤ value.old.spare }
         ensures { Serves (answer_touch fetch self.old key.now expiration now (live self.old key.now now)) self.old self.new value.old value.new result }
     {
         let Some(found) = self.live(key, now) else {
@@ -71,7 +71,7 @@ fn flags_shown(document: &Document, fetch: bool) -> u32
 
 /// Replies with a document as it stands, and appends its value where that is fetched.
 fn show(document: &Document, fetch: bool, value: &mut Out) -> Reply
-    requires { MAX_VALUE ≤ value.old.spare }
+    requires { max_value ≤ value.old.spare }
     ensures reply { result ≡ (shows document.now.cas (shown_flags fetch (doc_of document.now)) []).reply }
     ensures value { value.new.bytes ≡ value.old.bytes ++ shown_value fetch (doc_of document.now) }
     ensures room { value.new.spare + length value.new.bytes ≡ value.old.spare + length value.old.bytes }

@@ -2,7 +2,7 @@
 ghost use Rattle.std.specs.Prelude.{◌≡◌, ◌+◌, ◌≤◌, [], ◌++◌, length};
 ghost use Rattle.std.specs.Int.{w32, to_be_bytes};
 ghost use Rattle.ep_model.specs.Answer.{answer_observe, answer_set_state, apply, failover_bytes, shows, state_code};
-ghost use Rattle.ep_model.specs.declared.limits.TheConstants.{MAX_VALUE};
+ghost use Rattle.ep_model.specs.Limits.{max_value};
 
 use super::Plain;
 use crate::{Out, Reply, VbState, status};
@@ -15,7 +15,7 @@ const NOTHING_STORED: u64 = 0;
 
 impl Plain {
     pub(super) fn observe(&self, uuid: u64, value: &mut Out) -> Reply
-        requires { MAX_VALUE ≤ value.old.spare }
+        requires { max_value ≤ value.old.spare }
         ensures reply { result ≡ (answer_observe self.now uuid).reply }
         ensures value { value.new.bytes ≡ value.old.bytes ++ (answer_observe self.now uuid).value }
         ensures room { value.new.spare + length value.new.bytes ≡ value.old.spare + length value.old.bytes }
@@ -52,7 +52,7 @@ impl Plain {
     }
 
     pub(super) fn get_state(&self, value: &mut Out) -> Reply
-        requires { MAX_VALUE ≤ value.old.spare }
+        requires { max_value ≤ value.old.spare }
         ensures reply { result ≡ (shows 0 0 []).reply }
         ensures value { value.new.bytes ≡ value.old.bytes ++ to_be_bytes w32 (state_code self.now.state) }
         ensures room { value.new.spare + length value.new.bytes ≡ value.old.spare + length value.old.bytes }
