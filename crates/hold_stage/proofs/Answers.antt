@@ -6,7 +6,7 @@ use Rattle.ep_model.specs.declared.data.CallData.{CallData}
 use Rattle.ep_model.specs.declared.data.CallData.TheVariants as calls
 use Rattle.ep_model.specs.World.{World}
 use Rattle.ep_model.specs.Answer.{answer}
-use Rattle.ep_model.specs.Needs.{key_of}
+use Rattle.ep_model.specs.Calls.{key_of}
 use Rattle.hold_stage.proofs.Views.{SameQueue, SameFrame}
 
 -- a Get by its document and the state

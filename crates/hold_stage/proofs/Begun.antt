@@ -17,14 +17,8 @@ use Rattle.hold_stage.proofs.Later.{world_step, all_append}
 
 -- a refusal since the vBucket hasn't opened
 abbrev IsWarming : EventData → Type 0
-IsWarming (Called caller call now reply value) = ⊥
 IsWarming (Refused caller call now cause) = cause ≡ causes.Warming
-IsWarming (Expired key now) = ⊥
-IsWarming (Persisted number) = ⊥
-IsWarming (Marked stripe number) = ⊥
-IsWarming (Asked ticket caller call) = ⊥
-IsWarming (ReadFailed ticket fault) = ⊥
-IsWarming Opened = ⊥
+IsWarming event = ⊥
 
 all_at : {A : Type 0} (P : A → Type 0) (xs before later : List A) (x : A) → AllByRecursion P xs → xs ≡ before ++ x ∷ later → P x
 all_at P xs before later x all is = at P before later x (subst (λ l. AllByRecursion P l) is all)
@@ -38,7 +32,7 @@ none_put None is h = cc
 none_put (Some s) is h = cc
 
 cause_warming : (f : FrontData) (caller : ℕ) (call : CallData) (now : ℕ) (cause : Cause) → (world_of f).opened ≡ false → Caused f caller call now cause → cause ≡ causes.Warming
-cause_warming f caller call now causes.Quota closed c = absurd c
+cause_warming f caller call now causes.Quota closed c = absurd (let h = c.serving.opened in cc)
 cause_warming f caller call now causes.Warming closed c = refl
 cause_warming f caller call now (causes.Store ticket) closed c = absurd (let h = c.serving.opened in cc)
 cause_warming f caller call now (causes.Memory ticket) closed c = absurd (let h = c.serving.opened in cc)

@@ -9,12 +9,12 @@ use Rattle.ep_model.specs.declared.data.EventData.{EventData}
 use Rattle.ep_model.specs.declared.data.EventData.TheVariants.{Called, Refused, Expired, Persisted, Marked, Asked, ReadFailed, Opened}
 use Rattle.ep_model.specs.declared.data.FrontData.{FrontData}
 use Rattle.ep_model.specs.World.{World}
-use Rattle.ep_model.specs.Answer.{Effect, Nothing, Puts, Sets, answer, apply}
-use Rattle.ep_model.specs.History.{step, after}
+use Rattle.ep_model.specs.Answer.{Effect, Nothing, Puts, Sets, apply}
+use Rattle.ep_model.specs.History.{call_effect, step, after}
 use Rattle.ep_model.specs.Front.{begun, started, world_of, with_event, with_events, mark_after, marked}
 use Rattle.ep_model.specs.Legal.{IsUnused, IsBelow, Caused, MayAsk, May, AreLegal, IsLegal}
 use Rattle.ep_model.proofs.HistoryLemmas.{legal-front}
-use Rattle.hold_stage.specs.Mutations.{waits_after, waits_in, is_waiting}
+use Rattle.hold_stage.specs.Waits.{waits_after, waits_in, is_waiting}
 use Rattle.hold_stage.proofs.Later.{world_step, more_events, mark_append}
 use Rattle.hold_stage.proofs.Legality.{all_front}
 use Rattle.hold_stage.proofs.Mutations.{step_rises}
@@ -46,7 +46,7 @@ unfolding May
 bounds_step f (Called caller call now reply value) b may =
     let w = world_of f in
     let s = b.start in let t = b.stored in
-    let same = apply_persisted w (answer w call now).effect in
+    let same = apply_persisted w (call_effect w call now reply) in
     let low = (step_rises w (Called caller call now reply value)).low in
     bounds_of f (Called caller call now reply value) (step w (Called caller call now reply value)) (world_step f (Called caller call now reply value)) (omega arith) (omega arith) (λ stripe. let m = b.marked stripe in omega arith)
 bounds_step f (Refused caller call now cause) b may = bounds_of f (Refused caller call now cause) (world_of f) (world_step f (Refused caller call now cause)) b.start b.stored b.marked

@@ -39,14 +39,14 @@ of_call Opened a p = p
 
 pub touches_later : TouchesLater
 unfolding touches
-touches_later f (Called caller call now reply value) more p = refl
-touches_later f (Refused caller call now cause) more p = refl
-touches_later f (Expired key now) more p = refl
-touches_later f (Persisted number) more p = refl
-touches_later f (Marked stripe number) more p = refl
-touches_later f (Asked ticket caller call) more p = refl
-touches_later f (ReadFailed ticket fault) more p = refl
-touches_later f Opened more p = refl
+touches_later f (Called caller call now reply value) held by desk more some legal may covered own quiet p = refl
+touches_later f (Refused caller call now cause) held by desk more some legal may covered own quiet p = refl
+touches_later f (Expired key now) held by desk more some legal may covered own quiet p = refl
+touches_later f (Persisted number) held by desk more some legal may covered own quiet p = refl
+touches_later f (Marked stripe number) held by desk more some legal may covered own quiet p = refl
+touches_later f (Asked ticket caller call) held by desk more some legal may covered own quiet p = refl
+touches_later f (ReadFailed ticket fault) held by desk more some legal may covered own quiet p = refl
+touches_later f Opened held by desk more some legal may covered own quiet p = refl
 
 pub same_is : (n : ℕ) → (n == n) ≡ true
 same_is n = (Decides-eqb n n).1 refl

@@ -9,8 +9,8 @@ use Rattle.ep_model.specs.declared.data.EventData.{EventData}
 use Rattle.ep_model.specs.declared.data.EventData.TheVariants.{Called, Refused, Expired, Persisted, Marked, Asked, ReadFailed, Opened}
 use Rattle.ep_model.specs.declared.data.FrontData.{FrontData}
 use Rattle.ep_model.specs.World.{World}
-use Rattle.ep_model.specs.Answer.{Effect, Nothing, Puts, Sets, answer, apply}
-use Rattle.ep_model.specs.History.{step, after}
+use Rattle.ep_model.specs.Answer.{Effect, Nothing, Puts, Sets, apply}
+use Rattle.ep_model.specs.History.{call_effect, step, after}
 use Rattle.ep_model.specs.Front.{begun, world_of, with_event, with_events, mark_in, mark_after, marked, started}
 use Rattle.ep_model.specs.Legal.{IsSilent, IsBelow, IsNoFault, May, AreLegal}
 use Rattle.ep_model.proofs.HistoryLemmas.{after-append}
@@ -115,7 +115,7 @@ quiet_silent f held caller desk [] quiet = tt
 quiet_silent f held caller desk (event ∷ more) quiet = (step_silent caller event quiet.0.others, quiet_silent (with_event f event) held caller desk more quiet.1)
 
 -- what was stored never becomes less, and an opened vBucket stays open
-persisted_apply : (w : World) (effect : Effect) → (apply w effect).persisted ≡ w.persisted
+pub persisted_apply : (w : World) (effect : Effect) → (apply w effect).persisted ≡ w.persisted
 persisted_apply w Nothing = refl
 persisted_apply w (Puts key doc) = refl
 persisted_apply w (Sets state) = refl
@@ -127,7 +127,7 @@ opened_apply w (Sets state) = refl
 
 step_persisted : (f : FrontData) (event : EventData) → May f event → (world_of f).persisted ≤ (step (world_of f) event).persisted
 unfolding May
-step_persisted f (Called caller call now reply value) may = let e = persisted_apply (world_of f) (answer (world_of f) call now).effect in omega arith
+step_persisted f (Called caller call now reply value) may = let e = persisted_apply (world_of f) (call_effect (world_of f) call now reply) in omega arith
 step_persisted f (Refused caller call now cause) may = omega arith
 step_persisted f (Expired key now) may = omega arith
 step_persisted f (Persisted number) may = let h = may.above in omega arith
@@ -138,6 +138,10 @@ step_persisted f Opened may = omega arith
 
 pub world_step : (f : FrontData) (event : EventData) → world_of (with_event f event) ≡ step (world_of f) event
 world_step f event = world_after f (event ∷ [])
+
+-- no event changes whether the documents are known
+pub same_told : (f : FrontData) (event : EventData) → (world_of (with_event f event)).told ≡ (world_of f).told
+same_told f event = (same_frame f (event ∷ [])).told
 
 pub more_events : (f : FrontData) (event : EventData) (more : List EventData) → with_events (with_event f event) more ≡ with_events f (event ∷ more)
 more_events f event more = ap (λ (l : List EventData). record f { events = l }) (append_assoc f.events (event ∷ []) more)
@@ -153,7 +157,7 @@ persisted_later f (event ∷ more) legal =
     omega arith
 
 step_opened : (w : World) (event : EventData) → w.opened ≡ true → (step w event).opened ≡ true
-step_opened w (Called caller call now reply value) h = opened_apply w (answer w call now).effect ∙ h
+step_opened w (Called caller call now reply value) h = opened_apply w (call_effect w call now reply) ∙ h
 step_opened w (Refused caller call now cause) h = h
 step_opened w (Expired key now) h = h
 step_opened w (Persisted number) h = h

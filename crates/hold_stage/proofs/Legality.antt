@@ -18,7 +18,7 @@ use Rattle.ep_model.specs.declared.data.FrontData.{FrontData}
 use Rattle.ep_model.specs.World.{Doc}
 use Rattle.ep_model.specs.Stripes.{stripe_of}
 use Rattle.ep_model.specs.Answer.{Answer, answer}
-use Rattle.ep_model.specs.Needs.{key_of}
+use Rattle.ep_model.specs.Calls.{key_of}
 use Rattle.ep_model.specs.Front.{world_of, with_event, with_events, marked}
 use Rattle.ep_model.specs.Legal.{IsSilent, IsUnused, IsBelow, IsNoFault, WaitsAt, Caused, IsAway, May, AreLegal, IsLegal}
 use Rattle.ep_model.proofs.HistoryLemmas.{legal-push, legal-front}
@@ -26,7 +26,8 @@ use Rattle.hold_stage.specs.Touches.{touches_call, touches, is_of, is_call}
 use Rattle.hold_stage.specs.Grows.{Quiet}
 use Rattle.hold_stage.specs.Laws.{LegalLater}
 use Rattle.hold_stage.proofs.Callers.{same_is}
-use Rattle.hold_stage.proofs.Views.{SameStripe, SameQueue, or_true_left}
+use Rattle.hold_stage.proofs.Views.{SameStripe, SameQueue, or_true_left, touches_keyed}
+use Rattle.hold_stage.proofs.QuotaLemmas.{short_later}
 use Rattle.hold_stage.proofs.Answers.{get_same, keyed_same, unkeyed_same}
 use Rattle.hold_stage.proofs.Later.{all_append, quiet_stripe, quiet_queue, same_frame, quiet_mark, quiet_below, quiet_no_fault, quiet_silent, persisted_later, opened_later}
 
@@ -44,14 +45,14 @@ all_last P [] x h = h.0
 all_last P (y ∷ xs) x h = all_last P xs x h.1
 
 -- a ticket that is asked later is above every one before
-asked_below : (f : FrontData) (ticket : Ticket) (caller : ℕ) (call : CallData) (before later : List EventData)
+pub asked_below : (f : FrontData) (ticket : Ticket) (caller : ℕ) (call : CallData) (before later : List EventData)
     → AreLegal f (before ++ Asked ticket caller call ∷ later) → AllByRecursion (IsBelow ticket) f.events
 unfolding AreLegal May
 asked_below f ticket caller call [] later legal = legal.0.above
 asked_below f ticket caller call (event ∷ before) later legal =
     all_front (IsBelow ticket) f.events (event ∷ []) (asked_below (with_event f event) ticket caller call before later legal.1)
 
-not_below : (ticket : Ticket) (caller : ℕ) (call : CallData) (event : EventData) → event ≡ Asked ticket caller call → IsBelow ticket event → ⊥
+pub not_below : (ticket : Ticket) (caller : ℕ) (call : CallData) (event : EventData) → event ≡ Asked ticket caller call → IsBelow ticket event → ⊥
 not_below ticket caller call event is h = let below : ticket.number < ticket.number = subst (λ (e : EventData). IsBelow ticket e) is h refl in absurd (omega arith)
 
 -- two calls don't ask at one ticket
@@ -180,12 +181,23 @@ module _ (f : FrontData) (held : PartName → Bool) (caller : ℕ) (desk : Bool)
 
 cause_later : (f : FrontData) (held : PartName → Bool) (caller : ℕ) (desk : Bool) (more : List EventData) → 0 < f.config.stripes → IsLegal f → AreLegal f more → Quiet f held caller desk more
     → (call : CallData) (now : ℕ) (cause : Cause) → ((p : PartName) → touches_call f.config call p ≡ true → held p ≡ true) → Caused f caller call now cause → Caused (with_events f more) caller call now cause
-cause_later f held caller desk more some legal more-legal quiet call now causes.Quota covers c = c
+cause_later f held caller desk more some legal more-legal quiet call now causes.Quota covers c =
+    let s = serving_later f held caller desk more some quiet call covers in
+    let has = covers (Stripe (stripe_of c.key f.config.stripes)) (touches_keyed f.config call c.key c.keyed) in
+    record {
+      serving = record { opened = s.1 ∙ c.serving.opened; active = s.0 ∙ c.serving.active };
+      key = c.key;
+      keyed = c.keyed;
+      short = λ told.
+          short_later f held caller desk more quiet c.key call now has covers (at_stripe f held caller desk more some quiet c.key has) (answer_later f held caller desk more some quiet call now covers)
+          ∙ c.short (sym (same_frame f more).told ∙ told);
+    }
 cause_later f held caller desk more some legal more-legal quiet call now causes.Warming covers c = (serving_later f held caller desk more some quiet call covers).1 ∙ c
 cause_later f held caller desk more some legal more-legal quiet call now (causes.Store ticket) covers c =
     let s = serving_later f held caller desk more some quiet call covers in
     record {
       serving = record { opened = s.1 ∙ c.serving.opened; active = s.0 ∙ c.serving.active };
+      keyed = c.keyed;
       waits = waits_later f ticket caller call held desk more legal more-legal quiet c.waits;
       fault = c.fault;
       failed = record { before = c.failed.before; later = c.failed.later ++ more; failed = has_more_all f.events c.failed.before c.failed.later more (ReadFailed ticket c.fault) c.failed.failed };
@@ -194,6 +206,7 @@ cause_later f held caller desk more some legal more-legal quiet call now (causes
     let s = serving_later f held caller desk more some quiet call covers in
     record {
       serving = record { opened = s.1 ∙ c.serving.opened; active = s.0 ∙ c.serving.active };
+      keyed = c.keyed;
       waits = waits_later f ticket caller call held desk more legal more-legal quiet c.waits;
     }
 
@@ -203,8 +216,8 @@ legal_later f (Called other call now reply value) held caller desk more some leg
     let same = answer_later f held caller desk more some quiet call now covered in
     record {
       opened = (serving_later f held caller desk more some quiet call covered).1 ∙ may.opened;
-      reply_is = may.reply_is ∙ ap (λ (a : Answer). a.reply) (sym same);
-      value_is = may.value_is ∙ ap (λ (a : Answer). a.value) (sym same);
+      reply_is = λ told. may.reply_is (sym (same_frame f more).told ∙ told) ∙ ap (λ (a : Answer). a.reply) (sym same);
+      value_is = λ told. may.value_is (sym (same_frame f more).told ∙ told) ∙ ap (λ (a : Answer). a.value) (sym same);
     }
 legal_later f (Refused other call now cause) held caller desk more some legal may covered own quiet =
     let l = legal-front f more legal in
@@ -217,11 +230,9 @@ legal_later f (Expired key now) held caller desk more some legal may covered own
     record {
       serving = record { opened = q.opened ∙ may.serving.opened; active = q.state ∙ may.serving.active };
       room = let h = may.room in let e = q.high in omega arith;
-      doc = may.doc;
-      found = s.docs key refl ∙ may.found;
-      stands = may.stands;
-      ends = may.ends;
-      past = may.past;
+      expired = λ told.
+          let x = may.expired (sym (same_frame f more).told ∙ told) in
+          record { doc = x.doc; found = s.docs key refl ∙ x.found; stands = x.stands; ends = x.ends; past = x.past };
     }
 legal_later f (Persisted number) held caller desk more some legal may covered own quiet =
     let q = at_queue f held caller desk more some quiet (covered Queue refl) in
@@ -247,8 +258,10 @@ legal_later f (Asked ticket other call) held caller desk more some legal may cov
       keyed = may.keyed;
       here = may.here;
       above = all_append (IsBelow ticket) f.events more may.above (quiet_below f ticket held caller desk more has quiet);
-      away = subst (λ (o : Option Doc). IsAway f.config.eviction (marked (with_events f more) ticket.stripe) o) (sym (s.docs may.key refl))
-          (subst (λ m. IsAway f.config.eviction m (get (world_of f).docs may.key)) (sym (quiet_mark f ticket.stripe held caller desk more has quiet)) may.away);
+      away = λ told.
+          let away = may.away (sym (same_frame f more).told ∙ told) in
+          subst (λ (o : Option Doc). IsAway f.config.eviction (marked (with_events f more) ticket.stripe) o) (sym (s.docs may.key refl))
+          (subst (λ m. IsAway f.config.eviction m (get (world_of f).docs may.key)) (sym (quiet_mark f ticket.stripe held caller desk more has quiet)) away);
     }
 legal_later f (ReadFailed ticket fault) held caller desk more some legal may covered own quiet = record {
   asked = record { before = may.asked.before; later = may.asked.later ++ more; caller = may.asked.caller; call = may.asked.call; asked = has_more_all f.events may.asked.before may.asked.later more (Asked ticket may.asked.caller may.asked.call) may.asked.asked };

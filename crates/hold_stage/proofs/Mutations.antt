@@ -3,52 +3,27 @@ use Rattle.std.proofs.Common.{◌≡◌, ◌≢◌, ◌<◌, ◌≤◌, ℕ, ◌
 use Rattle.std.specs.Prelude.{Option, Some, None, ◌==◌, option_to_list}
 use Rattle.std.proofs.lemmas.Bool.Decides.{Decides-eqb, nat_tests}
 use Rattle.std.specs.FinMap.{insert}
-use Rattle.ep_model.specs.declared.call.VbState.{VbState}
-use Rattle.ep_model.specs.declared.call.VbState.TheVariants.{Active, Replica, Pending, Dead}
 use Rattle.ep_model.specs.declared.data.CallData.{CallData}
-use Rattle.ep_model.specs.declared.data.CallData.TheVariants as calls
 use Rattle.ep_model.specs.declared.data.EventData.{EventData}
 use Rattle.ep_model.specs.declared.data.EventData.TheVariants.{Called, Refused, Expired, Persisted, Marked, Asked, ReadFailed, Opened}
 use Rattle.ep_model.specs.World.{Doc, World, stamp}
-use Rattle.ep_model.specs.Answer.{Effect, Nothing, Puts, Sets, unless, answer_set_state, answer, apply}
-use Rattle.ep_model.specs.History.{step, after, upto}
-use Rattle.ep_model.specs.Refusals.{state_refusal}
-use Rattle.hold_stage.specs.Mutations.{put_by, mutation_of, mutations}
-use Rattle.hold_stage.proofs.Effects.{IsNext, effect_is_next, effect_of_get, effect_of_observe, effect_of_failovers, effect_of_get_state}
+use Rattle.ep_model.specs.Answer.{Effect, Nothing, Puts, Sets, apply}
+use Rattle.ep_model.specs.History.{call_effect, step, after, upto}
+use Rattle.ep_model.specs.Mutations.{put_by, mutation_of, mutations}
+use Rattle.ep_model.proofs.EffectLemmas.{IsDone, call_done, cas_rises}
 
 -- a document that is put has the next sequence number, and a greater CAS than any before
 abbrev pub IsNextPut : World → Option (List ℕ × Doc) → Type 0
 IsNextPut w None = Unit {0}
 IsNextPut w (Some p) = (p.1.seqno ≡ w.high + 1) × (w.maxcas < p.1.cas)
 
-next_of_effect : (w : World) (key : List ℕ) (effect : Effect) → IsNext w key effect → IsNextPut w (put_by effect)
-next_of_effect w key Nothing h = tt
-next_of_effect w key (Puts other doc) h = (h.1, h.2)
-next_of_effect w key (Sets state) h = tt
-
-next_of_nothing : (w : World) (effect : Effect) → effect ≡ Nothing → IsNextPut w (put_by effect)
-next_of_nothing w effect is = subst (λ (e : Effect). IsNextPut w (put_by e)) (sym is) tt
-
-set_at : (w : World) (at state : VbState) → IsNextPut w (put_by (unless (state_refusal at false) (answer_set_state state)).effect)
-set_at w Active state = tt
-set_at w Replica state = tt
-set_at w Pending state = tt
-set_at w Dead state = tt
-
-next_of_call : (w : World) (call : CallData) (now : ℕ) → IsNextPut w (put_by (answer w call now).effect)
-next_of_call w (calls.Get key) now = next_of_nothing w _ (effect_of_get w key now)
-next_of_call w (calls.Store kind key value flags expiration cas) now = next_of_effect w key _ (effect_is_next w (calls.Store kind key value flags expiration cas) now key refl)
-next_of_call w (calls.Join front key value cas) now = next_of_effect w key _ (effect_is_next w (calls.Join front key value cas) now key refl)
-next_of_call w (calls.Count down key delta initial expiration cas) now = next_of_effect w key _ (effect_is_next w (calls.Count down key delta initial expiration cas) now key refl)
-next_of_call w (calls.Delete key cas) now = next_of_effect w key _ (effect_is_next w (calls.Delete key cas) now key refl)
-next_of_call w (calls.Touch key expiration fetch) now = next_of_effect w key _ (effect_is_next w (calls.Touch key expiration fetch) now key refl)
-next_of_call w (calls.Observe uuid) now = next_of_nothing w _ (effect_of_observe w uuid now)
-next_of_call w calls.Failovers now = next_of_nothing w _ (effect_of_failovers w now)
-next_of_call w (calls.SetState state) now = set_at w w.state state
-next_of_call w calls.GetState now = next_of_nothing w _ (effect_of_get_state w now)
+next_of_done : (w : World) (call : CallData) (now : ℕ) (effect : Effect) → IsDone w call now effect → IsNextPut w (put_by effect)
+next_of_done w call now Nothing done = tt
+next_of_done w call now (Puts key doc) done = (done.1.0, cas_rises w now doc done.1)
+next_of_done w call now (Sets state) done = tt
 
 pub mutation_is_next : (w : World) (event : EventData) → IsNextPut w (mutation_of w event)
-mutation_is_next w (Called caller call now reply value) = next_of_call w call now
+mutation_is_next w (Called caller call now reply value) = next_of_done w call now (call_effect w call now reply) (call_done w call now reply)
 mutation_is_next w (Refused caller call now cause) = tt
 mutation_is_next w (Expired key now) = (refl, (let h : w.maxcas < stamp w now = omega arith in h))
 mutation_is_next w (Persisted number) = tt
@@ -80,7 +55,7 @@ put_of_effect w (Puts key doc) = (refl, refl, refl)
 put_of_effect w (Sets state) = record { docs = refl; high = refl; maxcas = refl }
 
 pub step_is_put : (w : World) (event : EventData) → IsPut w (step w event) (mutation_of w event)
-step_is_put w (Called caller call now reply value) = put_of_effect w (answer w call now).effect
+step_is_put w (Called caller call now reply value) = put_of_effect w (call_effect w call now reply)
 step_is_put w (Refused caller call now cause) = stored_refl w
 step_is_put w (Expired key now) = (refl, refl, refl)
 step_is_put w (Persisted number) = record { docs = refl; high = refl; maxcas = refl }

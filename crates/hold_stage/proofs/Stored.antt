@@ -10,7 +10,7 @@ use Rattle.ep_model.specs.declared.data.EventData.{EventData}
 use Rattle.ep_model.specs.World.{Doc, Docs, World, put}
 use Rattle.ep_model.specs.History.{step, after, upto}
 use Rattle.ep_model.proofs.ReadBack.{get-put, get-put_other}
-use Rattle.hold_stage.specs.Mutations.{mutation_of, mutations, above, laid_on}
+use Rattle.ep_model.specs.Mutations.{mutation_of, mutations, above, laid_on}
 use Rattle.hold_stage.proofs.Mutations.{IsNextPut, mutation_is_next, SameStored, stored_refl, stored_then, IsPut, step_is_put, step_rises, after_rises}
 
 same_number : (a b : ℕ) → a ≡ b → (a == b) ≡ true
@@ -49,7 +49,7 @@ upto_last w (event ∷ events) =
     ] refl
 
 -- what is put behind a number is put above it
-above_all : (number : ℕ) (w : World) (events : List EventData) → number ≤ w.high → above number (mutations w events) ≡ mutations w events
+pub above_all : (number : ℕ) (w : World) (events : List EventData) → number ≤ w.high → above number (mutations w events) ≡ mutations w events
 above_all number w [] low = refl
 above_all number w (event ∷ events) low =
     filter-append (λ (p : List ℕ × Doc). nat_lt number p.1.seqno) (option_to_list (mutation_of w event)) (mutations (step w event) events)

@@ -7,13 +7,13 @@ use Rattle.ep_model.specs.declared.data.StartData.{StartData}
 use Rattle.ep_model.specs.Front.{with_event, with_start}
 use Rattle.hold_stage.specs.Touches.{same_part, touches, is_of, is_call, is_desks}
 
--- a count rose, or stands where it can't rise any more
-abbrev pub Rose : ℕ → ℕ → Type 0
-Rose old new = min (old + 1) (2 ^ 64 - 1) ≤ new
-
 -- the same parts
 abbrev pub Same : (PartName → Bool) → (PartName → Bool) → Type 0
 Same a b = (p : PartName) → a p ≡ b p
+
+-- those parts are among these
+abbrev pub Among : (PartName → Bool) → (PartName → Bool) → Type 0
+Among some held = (p : PartName) → some p ≡ true → held p ≡ true
 
 abbrev pub and_this : PartName → (PartName → Bool) → PartName → Bool
 and_this part held p = same_part p part || held p

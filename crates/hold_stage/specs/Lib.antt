@@ -1,4 +1,7 @@
 pub mod Touches
 pub mod Grows
+pub mod Stays
+pub mod Went
 pub mod Laws
-pub mod Mutations
+pub mod Waits
+pub mod Histories

@@ -1,5 +1,5 @@
 -- Which parts of its vBucket an event touches, whose it is, and what it is told by.
-use Rattle.std.specs.Prelude.{ℕ, ◌+◌, Bool, true, false, ◌==◌, ◌||◌, nat_lt, List, length}
+use Rattle.std.specs.Prelude.{ℕ, ◌+◌, Bool, true, false, ◌==◌, ◌||◌, nat_lt, List, length, Option, Some, None}
 use Rattle.ep_model.specs.declared.config.Config.{Config}
 use Rattle.ep_model.specs.declared.event.PartName.{PartName}
 use Rattle.ep_model.specs.declared.event.PartName.TheVariants.{Stripe, Queue, Desk}
@@ -9,6 +9,7 @@ use Rattle.ep_model.specs.declared.data.EventData.{EventData}
 use Rattle.ep_model.specs.declared.data.EventData.TheVariants.{Called, Refused, Expired, Persisted, Marked, Asked, ReadFailed, Opened}
 use Rattle.ep_model.specs.declared.data.FrontData.{FrontData}
 use Rattle.ep_model.specs.Stripes.{stripe_of}
+use Rattle.ep_model.specs.Calls.{key_of}
 
 -- which parts a vBucket has: its stripes, one queue and one desk
 abbrev pub there : Config → PartName → Bool
@@ -74,54 +75,37 @@ touches f Opened part = is_any_stripe f.config part || (is_queue part || is_desk
 unfoldable pub is_of : ℕ → EventData → Bool
 is_of caller (Called other call now reply value) = other == caller
 is_of caller (Refused other call now cause) = other == caller
-is_of caller (Expired key now) = false
-is_of caller (Persisted number) = false
-is_of caller (Marked stripe number) = false
 is_of caller (Asked ticket other call) = other == caller
-is_of caller (ReadFailed ticket fault) = false
-is_of caller Opened = false
+is_of caller event = false
 
 -- the event is of some caller
 unfoldable pub is_call : EventData → Bool
 is_call (Called caller call now reply value) = true
 is_call (Refused caller call now cause) = true
-is_call (Expired key now) = false
-is_call (Persisted number) = false
-is_call (Marked stripe number) = false
 is_call (Asked ticket caller call) = true
-is_call (ReadFailed ticket fault) = false
-is_call Opened = false
+is_call event = false
 
 -- only who has the desk notes the event
 unfoldable pub is_desks : EventData → Bool
-is_desks (Called caller call now reply value) = false
-is_desks (Refused caller call now cause) = false
-is_desks (Expired key now) = false
 is_desks (Persisted number) = true
-is_desks (Marked stripe number) = false
-is_desks (Asked ticket caller call) = false
 is_desks (ReadFailed ticket fault) = true
 is_desks Opened = true
+is_desks event = false
 
--- how many bytes of keys and values the event has
+abbrev pub key_length : Option (List ℕ) → ℕ
+key_length None = 0
+key_length (Some key) = length key
+
+-- how many bytes of keys and values the call has
 abbrev pub bytes_of_call : CallData → ℕ
-bytes_of_call (calls.Get key) = length key
 bytes_of_call (calls.Store kind key value flags expiration cas) = length key + length value
 bytes_of_call (calls.Join front key value cas) = length key + length value
-bytes_of_call (calls.Count down key delta initial expiration cas) = length key
-bytes_of_call (calls.Delete key cas) = length key
-bytes_of_call (calls.Touch key expiration fetch) = length key
-bytes_of_call (calls.Observe uuid) = 0
-bytes_of_call calls.Failovers = 0
-bytes_of_call (calls.SetState state) = 0
-bytes_of_call calls.GetState = 0
+bytes_of_call call = key_length (key_of call)
 
+-- and the event
 abbrev pub bytes_of : EventData → ℕ
 bytes_of (Called caller call now reply value) = bytes_of_call call + length value
 bytes_of (Refused caller call now cause) = bytes_of_call call
 bytes_of (Expired key now) = length key
-bytes_of (Persisted number) = 0
-bytes_of (Marked stripe number) = 0
 bytes_of (Asked ticket caller call) = bytes_of_call call
-bytes_of (ReadFailed ticket fault) = 0
-bytes_of Opened = 0
+bytes_of event = 0

@@ -6,6 +6,7 @@
 //! what is held stands for the history whatever others note meanwhile.
 #![tactic(auto)]
 
+pub mod histories;
 pub mod laws;
 mod stage;
 

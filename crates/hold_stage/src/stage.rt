@@ -1,5 +1,5 @@
 // The trait of whoever takes parts and notes events.
-ghost use Rattle.std.specs.Prelude.{◌≡◌, ◌+◌, ℕ, Bool, true, false, if◌then◌else◌, Option, Some, None, Ok, MatchResult, IfSome, IsErr};
+ghost use Rattle.std.specs.Prelude.{◌≡◌, ◌+◌, ℕ, Bool, true, false, if◌then◌else◌, Option, Some, None, MatchResult};
 ghost use Rattle.std.specs.Borrow.{GName};
 ghost use Rattle.ep_model.specs.declared.data.FrontData.{FrontData};
 ghost use Rattle.ep_model.specs.declared.data.StartData.{StartData};
@@ -9,7 +9,9 @@ ghost use Rattle.ep_model.specs.History.{event_data};
 ghost use Rattle.ep_model.specs.Front.{with_event, with_start, empty_start};
 ghost use Rattle.ep_model.specs.Legal.{May, IsLegal};
 ghost use Rattle.hold_stage.specs.Touches.{there, same_part, touches, bytes_of};
-ghost use Rattle.hold_stage.specs.Grows.{Rose, Same, and_this, but_this, Covered, Grown, Keeps, Noted, Begun, IsOwn};
+ghost use Rattle.hold_stage.specs.Stays.{Stays};
+ghost use Rattle.ep_model.specs.Counts.{Rose};
+ghost use Rattle.hold_stage.specs.Grows.{Same, and_this, but_this, Covered, Grown, Keeps, Noted, Begun, IsOwn};
 
 use ep_model::{Busy, Event, PartName};
 use std::marker::Brand;
@@ -74,7 +76,7 @@ pub trait Stage {
     fn take(&mut self, part: PartName) -> Result<Self::Part, Busy>
         requires there { there (front self.old).config part ≡ true }
         requires free { holds self.old part ≡ false }
-        ensures stays { (lent self.new ≡ lent self.old) × (fixed self.new ≡ fixed self.old) × (number self.new ≡ number self.old) × (is_desk self.new ≡ is_desk self.old) × (is_telling self.new ≡ is_telling self.old) }
+        ensures stays { Stays lent fixed number is_desk is_telling self.old self.new }
         ensures room { (n b : ℕ) → covers self.old n b → covers self.new n b }
         ensures grown { Grown (front self.old) (front self.new) (holds self.old) (number self.old) (is_desk self.old) }
         ensures legal { IsLegal (front self.new) }
@@ -82,7 +84,7 @@ pub trait Stage {
         ensures taken { MatchResult result (λ x. Self.Part.stands part (front self.new) x × (losses self.new ≡ losses self.old)) (λ b. (b.part ≡ part) × Rose (losses self.old) (losses self.new)) }
         ensures held { MatchResult result (λ _. Same (holds self.new) (and_this part (holds self.old))) (λ _. Same (holds self.new) (holds self.old)) }
         ensures alone { is_telling self.old ≡ true → front self.new ≡ front self.old }
-        ensures told { is_telling self.old ≡ true → IfSome (tells self.old part) (λ x. result ≡ Ok x) × (IsErr result → tells self.old part ≡ None) }
+        ensures told { is_telling self.old ≡ true → MatchResult result (λ x. tells self.old part ≡ Some x) (λ _. tells self.old part ≡ None) }
         ensures tells { is_telling self.old ≡ true → (p : PartName) → there (front self.old).config p ≡ true → tells self.new p ≡ (if same_part part p then None else tells self.old p) };
 
     /// Notes an event, which then stands last. Every part that it touches is held, it may happen behind the front,
@@ -92,7 +94,7 @@ pub trait Stage {
         requires may { May (front self.old) (event_data event.now) }
         requires own { IsOwn (number self.old) (is_desk self.old) (event_data event.now) }
         requires room { covers self.old 1 (bytes_of (event_data event.now)) }
-        ensures stays { (lent self.new ≡ lent self.old) × (fixed self.new ≡ fixed self.old) × (number self.new ≡ number self.old) × (is_desk self.new ≡ is_desk self.old) × (is_telling self.new ≡ is_telling self.old) }
+        ensures stays { Stays lent fixed number is_desk is_telling self.old self.new }
         ensures room { (n b : ℕ) → covers self.old (n + 1) (b + bytes_of (event_data event.now)) → covers self.new n b }
         ensures noted { Noted Self.Part.stands (front self.old) (front self.new) (holds self.old) (number self.old) (is_desk self.old) (event_data event.now) }
         ensures legal { IsLegal (front self.new) }
@@ -103,7 +105,7 @@ pub trait Stage {
 
     /// Learns what others noted.
     fn look(&mut self)
-        ensures stays { (lent self.new ≡ lent self.old) × (fixed self.new ≡ fixed self.old) × (number self.new ≡ number self.old) × (is_desk self.new ≡ is_desk self.old) × (is_telling self.new ≡ is_telling self.old) }
+        ensures stays { Stays lent fixed number is_desk is_telling self.old self.new }
         ensures room { (n b : ℕ) → covers self.old n b → covers self.new n b }
         ensures grown { Grown (front self.old) (front self.new) (holds self.old) (number self.old) (is_desk self.old) }
         ensures legal { IsLegal (front self.new) }
@@ -118,7 +120,7 @@ pub trait Stage {
         requires none { (front self.old).start ≡ None }
         requires desk { is_desk self.old ≡ true }
         requires all { (p : PartName) → there (front self.old).config p ≡ true → holds self.old p ≡ true }
-        ensures stays { (lent self.new ≡ lent self.old) × (fixed self.new ≡ fixed self.old) × (number self.new ≡ number self.old) × (is_desk self.new ≡ is_desk self.old) × (is_telling self.new ≡ is_telling self.old) }
+        ensures stays { Stays lent fixed number is_desk is_telling self.old self.new }
         ensures room { (n b : ℕ) → covers self.old n b → covers self.new n b }
         ensures begun { Begun (front self.old) (front self.new) (holds self.old) (number self.old) B.start }
         ensures legal { IsLegal (front self.new) }
@@ -131,7 +133,7 @@ pub trait Stage {
     fn give(&mut self, part: PartName, value: Self::Part)
         requires held { holds self.old part ≡ true }
         requires stands { Self.Part.stands part (front self.old) value }
-        ensures stays { (lent self.new ≡ lent self.old) × (fixed self.new ≡ fixed self.old) × (number self.new ≡ number self.old) × (is_desk self.new ≡ is_desk self.old) × (is_telling self.new ≡ is_telling self.old) }
+        ensures stays { Stays lent fixed number is_desk is_telling self.old self.new }
         ensures room { (n b : ℕ) → covers self.old n b → covers self.new n b }
         ensures front { front self.new ≡ front self.old }
         ensures held { Same (holds self.new) (but_this part (holds self.old)) }
