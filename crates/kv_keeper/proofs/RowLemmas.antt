@@ -18,7 +18,8 @@ use Rattle.std.proofs.lemmas.List.{map_push, map_more}
 use Rattle.kv_keeper.specs.declared.data.BatchData.{BatchData}
 use Rattle.kv_keeper.specs.declared.keeper.StoreState.{StoreState}
 use Rattle.kv_keeper.specs.Batch.{AreDistinct, AreWithin, Entry, laid, with_row}
-use Rattle.kv_keeper.specs.Memory.{MemoryData, is_failing, raised, after_get}
+use Rattle.ep_model.specs.Counts.{raised}
+use Rattle.kv_keeper.specs.Memory.{MemoryData, is_failing, after_get}
 use Rattle.kv_keeper.proofs.BatchLemmas.{laid-push, docs_of-with_row}
 use Rattle.kv_keeper.specs.Rows.{doc_of, entry_of, entries_of, docs_of, place_of, memory_of}
 

@@ -5,20 +5,11 @@ use Rattle.std.specs.List.{AllByRecursion, list_any}
 use Rattle.std.specs.Str.{bytes_eq}
 use Rattle.ep_model.specs.Limits.{IsKey, IsValue}
 use Rattle.ep_model.specs.World.{Doc, Docs}
-use Rattle.ep_model.specs.declared.call.Meta.{Meta}
 use Rattle.kv_keeper.specs.declared.data.BatchData.{BatchData}
 
 -- a document under its key
 abbrev pub Entry : Type 0
 Entry = List ℕ × Doc
-
--- a document's metadata
-abbrev pub meta_of : Doc → Meta
-meta_of doc = record { flags = doc.flags; expiry = doc.expiry; cas = doc.cas; seqno = doc.seqno; deleted = doc.deleted; len = length doc.value }
-
--- the document of this metadata and value
-abbrev pub doc_from : Meta → List ℕ → Doc
-doc_from meta value = record { value = value; flags = meta.flags; expiry = meta.expiry; cas = meta.cas; seqno = meta.seqno; deleted = meta.deleted }
 
 -- no rows yet
 abbrev pub empty_batch : ℕ → ℕ → BatchData

@@ -3,27 +3,39 @@ use Rattle.std.specs.Prelude.{◌≡◌, ℕ, ◌+◌, ◌-◌, ◌^◌, ◌≤�
 use Rattle.kv_keeper.specs.declared.data.DeskData.{DeskData}
 use Rattle.kv_keeper.specs.declared.keeper.Kept.{Kept}
 use Rattle.kv_keeper.specs.declared.keeper.Kept.TheVariants.{Good, Failed, NoMemory}
+use Rattle.kv_keeper.specs.Content.{KeeperData}
+use Rattle.ep_model.specs.Counts.{Rose}
 
 -- a desk that was just made before a keeper
-abbrev pub new_desk : {K : Type 0} → K → DeskData K
+abbrev pub new_desk : KeeperData → DeskData
 new_desk keeper = record { keeper = keeper; stored = 0; noted = 0; doubt = None; read_faults = 0 }
 
 -- the store is known to hold the history up to `stored`
-abbrev pub IsSure : {K : Type 0} → DeskData K → Type 0
+abbrev pub IsSure : DeskData → Type 0
 IsSure desk = desk.doubt ≡ None
 
 -- a count rose from `before` by at least so many, or stands where it can't rise any more
 abbrev pub RoseBy : ℕ → ℕ → ℕ → Type 0
 RoseBy many before now = min (before + many) (2 ^ 64 - 1) ≤ now
 
--- the number of failed reads after one that was answered so
-abbrev pub faults_after : {T : Type 0} → ℕ → Kept T → ℕ
-faults_after read_faults (Good x) = read_faults
-faults_after read_faults Failed = read_faults + 1
-faults_after read_faults NoMemory = read_faults
+-- a desk whose keeper has failed so often
+abbrev pub with_keeper_faults : DeskData → ℕ → DeskData
+with_keeper_faults desk faults = record desk { keeper = record desk.keeper { faults = faults } }
+
+-- a desk of which one more read failed
+pub record HasFailedRead (old new : DeskData) : Type 0 where
+  pub left : new ≡ record (with_keeper_faults old new.keeper.faults) { read_faults = old.read_faults + 1 }
+  pub faults : old.keeper.faults ≤ new.keeper.faults
+  pub rose : Rose old.keeper.faults new.keeper.faults
+
+-- what a read leaves of a desk: only one that failed changes anything
+abbrev pub LeavesDesk : {T : Type 0} → DeskData → DeskData → Kept T → Type 0
+LeavesDesk old new (Good x) = new ≡ old
+LeavesDesk old new Failed = HasFailedRead old new
+LeavesDesk old new NoMemory = new ≡ old
 
 -- a desk after a commit up to a number that was answered so and left it this keeper
-abbrev pub after_commit : {K T : Type 0} → K → DeskData K → ℕ → Kept T → DeskData K
+abbrev pub after_commit : {T : Type 0} → KeeperData → DeskData → ℕ → Kept T → DeskData
 after_commit keeper desk to (Good x) = record desk { keeper = keeper; stored = to }
 after_commit keeper desk to Failed = record desk { keeper = keeper; doubt = Some to }
 after_commit keeper desk to NoMemory = record desk { keeper = keeper }

@@ -1,18 +1,16 @@
 -- What the result of a call on a store says.
-use Rattle.std.specs.Prelude.{◌≡◌, ℕ, ◌+◌, ◌-◌, ◌^◌, ◌≤◌, ◌⊎◌, min, ⊤, List, ◌++◌, length, Option, Some, None}
+use Rattle.std.specs.Prelude.{◌≡◌, ℕ, ◌+◌, ◌-◌, ◌^◌, ◌≤◌, ◌⊎◌, min, false, ⊤, List, ◌++◌, length, Option, Some, None}
+use Rattle.std.specs.Option.{option_map}
+use Rattle.ep_model.specs.Counts.{Rose}
 use Rattle.ep_model.specs.declared.call.Meta.{Meta}
 use Rattle.ep_model.specs.declared.data.OutData.{OutData}
-use Rattle.ep_model.specs.declared.limits.TheConstants.{MAX_VALUE}
+use Rattle.ep_model.specs.Limits.{max_value}
 use Rattle.kv_keeper.specs.declared.data.BatchData.{BatchData}
 use Rattle.kv_keeper.specs.declared.keeper.StoreState.{StoreState}
 use Rattle.kv_keeper.specs.declared.keeper.Kept.{Kept}
 use Rattle.kv_keeper.specs.declared.keeper.Kept.TheVariants.{Good, Failed, NoMemory}
 use Rattle.kv_keeper.specs.Batch.{laid}
-use Rattle.kv_keeper.specs.Content.{Content}
-
--- a count of faults rose, or stands where it can't rise any more
-abbrev pub Rose : ℕ → ℕ → Type 0
-Rose before now = min (before + 1) (2 ^ 64 - 1) ≤ now
+use Rattle.kv_keeper.specs.Content.{Content, KeeperData}
 
 -- P of the answer, if it is good
 abbrev pub IfGood : {T : Type 0} → Kept T → (T → Type 0) → Type 0
@@ -20,23 +18,31 @@ IfGood (Good x) P = P x
 IfGood Failed P = ⊤
 IfGood NoMemory P = ⊤
 
--- P, if the store failed
-abbrev pub OnFailed : {T : Type 0} → Kept T → Type 0 → Type 0
-OnFailed (Good x) P = ⊤
-OnFailed Failed P = P
-OnFailed NoMemory P = ⊤
+-- P, if memory was wanting
+abbrev pub OnNoMemory : {T : Type 0} → Kept T → Type 0 → Type 0
+OnNoMemory (Good x) P = ⊤
+OnNoMemory Failed P = ⊤
+OnNoMemory NoMemory P = P
 
 -- the numbers of a store that holds this
 abbrev pub state_of : Content → StoreState
 state_of content = record { version = content.version; high = content.high; maxcas = content.maxcas }
 
--- the content stays, where it is told
-abbrev pub Keeps : Option Content → Option Content → Type 0
-Keeps old new = (c : Content) → old ≡ Some c → new ≡ Some c
+-- A store failed, and what it holds is as it was, told or not.
+pub record HasFailed (old new : KeeperData) : Type 0 where
+  pub left : new ≡ record old { faults = new.faults }
+  pub faults : old.faults ≤ new.faults
+  pub rose : Rose old.faults new.faults
+
+-- A call that commits nothing leaves a store as it was, told or not. Its faults are counted where it failed, and nowhere else.
+abbrev pub Leaves : {T : Type 0} → KeeperData → KeeperData → Kept T → Type 0
+Leaves old new (Good x) = new ≡ old
+Leaves old new Failed = HasFailed old new
+Leaves old new NoMemory = new ≡ old
 
 -- what a read appends to its buffer: the value of the document that it found
 abbrev pub Appends : OutData → OutData → Kept (Option Meta) → Type 0
-Appends old new (Good (Some meta)) = (bytes : List ℕ) × (new.bytes ≡ old.bytes ++ bytes) × (length bytes ≡ meta.len) × (meta.len ≤ MAX_VALUE)
+Appends old new (Good (Some meta)) = (bytes : List ℕ) × (new.bytes ≡ old.bytes ++ bytes) × (length bytes ≡ meta.len) × (meta.len ≤ max_value)
 Appends old new (Good None) = new ≡ old
 Appends old new Failed = new ≡ old
 Appends old new NoMemory = new ≡ old
@@ -45,8 +51,20 @@ Appends old new NoMemory = new ≡ old
 abbrev pub committed : Content → BatchData → StoreState → Content
 committed content batch state = record { docs = laid batch.rows content.docs; version = state.version; high = state.high; maxcas = state.maxcas }
 
--- what a commit leaves of the content `old`, where all of it makes `whole`
-abbrev pub Commits : {T : Type 0} → Content → Content → Option Content → Kept T → Type 0
-Commits old whole new (Good x) = new ≡ Some whole
-Commits old whole new Failed = (new ≡ Some old) ⊎ (new ≡ Some whole)
-Commits old whole new NoMemory = new ≡ Some old
+-- the same of a content that may be untold
+abbrev pub all_committed : Option Content → BatchData → StoreState → Option Content
+all_committed content batch state = option_map (λ c. committed c batch state) content
+
+-- A store whose commit failed: all of it was done, or nothing, and that is in doubt.
+pub record IsDoubtful (old : KeeperData) (whole : Option Content) (new : KeeperData) : Type 0 where
+  pub which : ((new.content ≡ old.content) × (new.second ≡ whole)) ⊎ ((new.content ≡ whole) × (new.second ≡ old.content))
+  pub doubtful : new.sure ≡ false
+  pub ample : new.ample ≡ old.ample
+  pub faults : old.faults ≤ new.faults
+  pub rose : Rose old.faults new.faults
+
+-- what a commit makes of a store
+abbrev pub Commits : {T : Type 0} → KeeperData → BatchData → StoreState → KeeperData → Kept T → Type 0
+Commits old batch state new (Good x) = new ≡ record old { content = all_committed old.content batch state }
+Commits old batch state new Failed = IsDoubtful old (all_committed old.content batch state) new
+Commits old batch state new NoMemory = new ≡ old

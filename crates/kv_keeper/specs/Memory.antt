@@ -1,18 +1,18 @@
 -- A store in memory, and what calls on it answer and leave.
-use Rattle.std.specs.Prelude.{ℕ, ◌+◌, ◌-◌, ◌^◌, min, Bool, ◌==◌, if◌then◌else◌, List, ◌++◌, refl, Option}
-use Rattle.std.specs.Coded.{Coded, code_by, coded×, coded_ℕ, coded_bool, coded_list}
+use Rattle.std.specs.Prelude.{ℕ, ◌+◌, ◌-◌, ◌^◌, min, Bool, true, ◌==◌, if◌then◌else◌, List, ◌++◌, refl, Option, Some, None}
+use Rattle.std.specs.Coded.{Coded, code_by, coded×, coded_ℕ, coded_list}
 use Rattle.std.specs.FinMap as map
 use Rattle.std.specs.List.{list_any}
 use Rattle.std.specs.Option.{option_map}
+use Rattle.ep_model.specs.Counts.{raised}
 use Rattle.ep_model.specs.Plain.{value_of}
-use Rattle.ep_model.specs.World.{Doc, Docs}
 use Rattle.ep_model.specs.declared.call.Meta.{Meta}
 use Rattle.kv_keeper.specs.declared.data.BatchData.{BatchData}
 use Rattle.kv_keeper.specs.declared.keeper.StoreState.{StoreState}
 use Rattle.kv_keeper.specs.declared.keeper.Kept.{Kept}
 use Rattle.kv_keeper.specs.declared.keeper.Kept.TheVariants.{Good, Failed, NoMemory}
-use Rattle.kv_keeper.specs.Batch.{meta_of}
-use Rattle.kv_keeper.specs.Content.{Content, empty_content}
+use Rattle.ep_model.specs.World.{meta_of}
+use Rattle.kv_keeper.specs.Content.{Content, KeeperData, coded_content, empty_content}
 use Rattle.kv_keeper.specs.Kept.{committed}
 
 -- `gets` is the number of the next read, and `fails` has the numbers of those that fail.
@@ -21,20 +21,6 @@ pub record MemoryData : Type 0 where
   pub gets : ℕ
   pub fails : List ℕ
   pub faults : ℕ
-
-abbrev coded_doc : Coded Doc
-coded_doc = code_by (List ℕ × (ℕ × (ℕ × (ℕ × (ℕ × Bool)))))
-    (coded× (coded_list coded_ℕ) (coded× coded_ℕ (coded× coded_ℕ (coded× coded_ℕ (coded× coded_ℕ coded_bool)))))
-    (λ d. (d.value, (d.flags, (d.expiry, (d.cas, (d.seqno, d.deleted))))))
-    (λ t. record { value = t.0; flags = t.1.0; expiry = t.1.1.0; cas = t.1.1.1.0; seqno = t.1.1.1.1.0; deleted = t.1.1.1.1.1 })
-    (λ _. refl)
-
-abbrev coded_content : Coded Content
-coded_content = code_by (Docs × (ℕ × (ℕ × ℕ)))
-    (coded× (map.code (coded_list coded_ℕ) coded_doc) (coded× coded_ℕ (coded× coded_ℕ coded_ℕ)))
-    (λ c. (c.docs, (c.version, (c.high, c.maxcas))))
-    (λ t. record { docs = t.0; version = t.1.0; high = t.1.1.0; maxcas = t.1.1.1 })
-    (λ _. refl)
 
 -- the code of stores in memory, by which a proof tells them apart
 abbrev pub coded_memory : Coded MemoryData
@@ -47,10 +33,6 @@ coded_memory = code_by (Content × (ℕ × (List ℕ × ℕ)))
 -- an empty store, whose reads of these numbers fail
 abbrev pub empty_memory : List ℕ → MemoryData
 empty_memory fails = record { content = empty_content; gets = 0; fails = fails; faults = 0 }
-
--- a count after one more
-abbrev pub raised : ℕ → ℕ
-raised count = min (count + 1) (2 ^ 64 - 1)
 
 -- whether the next read fails
 abbrev pub is_failing : MemoryData → Bool
@@ -73,3 +55,7 @@ abbrev pub after_commit : {T : Type 0} → MemoryData → BatchData → StoreSta
 after_commit memory batch state (Good x) = record memory { content = committed memory.content batch state }
 after_commit memory batch state Failed = memory
 after_commit memory batch state NoMemory = memory
+
+-- what is seen of it whatever keeps it
+abbrev pub keeper_of : MemoryData → KeeperData
+keeper_of memory = record { content = Some memory.content; second = None; sure = true; faults = memory.faults; ample = true }

@@ -6,7 +6,8 @@ use Rattle.std.specs.Str.{bytes_eq}
 use Rattle.ep_model.specs.World.{Doc, Docs}
 use Rattle.kv_keeper.specs.declared.row.Row.{Row}
 use Rattle.kv_keeper.specs.declared.keeper.StoreState.{StoreState}
-use Rattle.kv_keeper.specs.Batch.{Entry, doc_from}
+use Rattle.ep_model.specs.World.{doc_from}
+use Rattle.kv_keeper.specs.Batch.{Entry}
 use Rattle.kv_keeper.specs.Memory.{MemoryData}
 
 -- a row's document without where its bytes lie

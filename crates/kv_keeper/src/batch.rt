@@ -3,7 +3,8 @@ ghost use Rattle.std.specs.Prelude.{◌≡◌, ◌+◌, ◌<◌, if◌then◌els
 ghost use Rattle.std.specs.FinMap as map;
 ghost use Rattle.ep_model.specs.Limits.{IsKey, IsValue};
 ghost use Rattle.ep_model.specs.World.{Docs};
-ghost use Rattle.kv_keeper.specs.Batch.{AreDistinct, AreWithin, empty_batch, doc_from, meta_of, has_row, with_row, row_at, laid};
+ghost use Rattle.ep_model.specs.World.{doc_from, meta_of};
+ghost use Rattle.kv_keeper.specs.Batch.{AreDistinct, AreWithin, empty_batch, has_row, with_row, row_at, laid};
 ghost use Rattle.kv_keeper.specs.Rows.{entries_of};
 
 use crate::row::Row;

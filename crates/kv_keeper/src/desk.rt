@@ -1,14 +1,15 @@
 // A vBucket's keeper, and what is known of it.
-ghost use Rattle.std.specs.Prelude.{◌≡◌, ◌≤◌, ◌+◌, ◌-◌, ◌^◌, ◌++◌, ℕ, Some, length, IsTrue, ◌↔◌};
+ghost use Rattle.std.specs.Prelude.{◌≡◌, ◌⊎◌, ◌≤◌, ◌+◌, ◌-◌, ◌^◌, ◌++◌, ℕ, true, false, Some, length, IsTrue, ◌↔◌};
 ghost use Rattle.std.specs.FinMap as map;
 ghost use Rattle.std.specs.Option.{option_map};
 ghost use Rattle.ep_model.specs.Limits.{IsKey};
 ghost use Rattle.ep_model.specs.Plain.{value_of};
-ghost use Rattle.ep_model.specs.declared.limits.TheConstants.{MAX_VALUE};
-ghost use Rattle.kv_keeper.specs.Batch.{AreWithin, meta_of};
+ghost use Rattle.ep_model.specs.Limits.{max_value};
+ghost use Rattle.ep_model.specs.World.{meta_of};
+ghost use Rattle.kv_keeper.specs.Batch.{AreWithin};
 ghost use Rattle.kv_keeper.specs.Content.{Content};
-ghost use Rattle.kv_keeper.specs.Kept.{IfGood, OnFailed, Rose, Appends, Commits, Keeps, committed, state_of};
-ghost use Rattle.kv_keeper.specs.Desk.{IsSure, RoseBy, after_commit, faults_after, new_desk};
+ghost use Rattle.kv_keeper.specs.Kept.{Appends, Commits, IfGood, Leaves, OnNoMemory, state_of};
+ghost use Rattle.kv_keeper.specs.Desk.{IsSure, LeavesDesk, RoseBy, after_commit, new_desk};
 
 use crate::{Batch, Keeper, Kept, StoreState};
 use ep_model::{Meta, Out};
@@ -18,7 +19,7 @@ use std::marker::Model;
 /// A vBucket's keeper, and what is known of it: the number up to which it holds the history, or that this is in
 /// doubt since a commit failed, and how many reads failed.
 #[derive(Drop)]
-pub struct Desk<K> {
+pub struct Desk<K: Keeper> {
     keeper: K,
     stored: u64,
     noted: u64,
@@ -27,24 +28,32 @@ pub struct Desk<K> {
     read_faults: u64,
 }
 
-impl<K> Model for Desk<K> {
+impl<K: Keeper> Model for Desk<K> {
+    ghost use Rattle.std.specs.Prelude.{◌≡◌, None, true};
+    ghost use Rattle.std.specs.Coded.{codes};
+    ghost use Rattle.kv_keeper.specs.Content.{coded_keeper};
     ghost use Rattle.kv_keeper.specs.declared.data.DeskData.{DeskData};
 
-    ghost Value = { DeskData K };
+    ghost Value = { DeskData };
+
+    ghost coded = { Prim.hlevel (codes, coded_keeper) };
 
     ghost view = { λ d. record {
-      keeper = d.keeper;
+      keeper = K.seen d.keeper;
       stored = d.stored;
       noted = d.noted;
       doubt = d.doubt;
       read_faults = d.read_faults;
     } };
+
+    ghost invariant = { λ d. d.doubt ≡ None → (K.seen d.keeper).sure ≡ true };
 }
 
 impl<K: Keeper> Desk<K> {
-    /// A desk before a keeper that holds nothing of the history yet. It takes no memory.
+    /// A desk before a keeper that holds nothing of the history yet, and of which no commit failed. It takes no memory.
     pub fn new(keeper: K) -> Desk<K>
-        ensures { result ≡ new_desk keeper }
+        requires sure { (K.seen keeper).sure ≡ true }
+        ensures { result ≡ new_desk (K.seen keeper) }
     {
         Desk {
             keeper,
@@ -94,12 +103,10 @@ impl<K: Keeper> Desk<K> {
 
     /// The keeper's numbers, by one call of it.
     pub fn state(&mut self, alloc: Global) -> Kept<StoreState>
-        requires { IsSure self.old }
+        requires sure { IsSure self.old }
         ensures good { IfGood result (λ state.
-            (c : Content) → K.content self.old.keeper ≡ Some c → state ≡ state_of c) }
-        ensures keeps { Keeps (K.content self.old.keeper) (K.content self.new.keeper) }
-        ensures failed { OnFailed result (Rose (K.faults self.old.keeper) (K.faults self.new.keeper)) }
-        ensures faults { K.faults self.old.keeper ≤ K.faults self.new.keeper }
+            (c : Content) → self.old.keeper.content ≡ Some c → state ≡ state_of c) }
+        ensures left { Leaves self.old.keeper self.new.keeper result }
         ensures after { self.new ≡ record self.old { keeper = self.new.keeper } }
     {
         self.keeper.state(alloc)
@@ -110,29 +117,25 @@ impl<K: Keeper> Desk<K> {
     pub fn get(&mut self, alloc: Global, key: &[u8], value: &mut Out) -> Kept<Option<Meta>>
         requires sure { IsSure self.old }
         requires key { IsKey key.now }
-        requires spare { MAX_VALUE ≤ value.old.spare }
+        requires spare { max_value ≤ value.old.spare }
 
-        ensures meta { IfGood result (λ meta. (c : Content) → K.content self.old.keeper ≡ Some c →
+        ensures meta { IfGood result (λ meta. (c : Content) → self.old.keeper.content ≡ Some c →
             meta ≡ option_map meta_of (map.get c.docs key.now)) }
-        ensures value { IfGood result (λ _. (c : Content) → K.content self.old.keeper ≡ Some c →
+        ensures value { IfGood result (λ _. (c : Content) → self.old.keeper.content ≡ Some c →
             value.new.bytes ≡ value.old.bytes ++ value_of (map.get c.docs key.now)) }
-        ensures keeps { Keeps (K.content self.old.keeper) (K.content self.new.keeper) }
         ensures appends { Appends value.old value.new result }
         ensures room { value.new.spare + length value.new.bytes
             ≡ value.old.spare + length value.old.bytes }
 
-        ensures failed { OnFailed result (Rose (K.faults self.old.keeper) (K.faults self.new.keeper)) }
-        ensures faults { K.faults self.old.keeper ≤ K.faults self.new.keeper }
-        ensures after { self.new ≡ record self.old {
-          keeper = self.new.keeper;
-          read_faults = faults_after self.old.read_faults result;
-        } }
+        ensures left { LeavesDesk self.old self.new result }
+        ensures memory { OnNoMemory result
+            ((self.old.keeper.ample ≡ false) ⊎ (self.old.read_faults ≡ 2 ^ 64 - 1)) }
         ensures exhausted { self.old.read_faults ≡ 2 ^ 64 - 1 →
             (result ≡ Kept.NoMemory) × (self.new ≡ self.old) }
 
         // Where the keeper's count has risen by the failed reads before, it has by those after.
-        ensures counted { (before : ℕ) → RoseBy self.old.read_faults before (K.faults self.old.keeper) →
-            RoseBy self.new.read_faults before (K.faults self.new.keeper) }
+        ensures by_reads { (before : ℕ) → RoseBy self.old.read_faults before self.old.keeper.faults →
+            RoseBy self.new.read_faults before self.new.keeper.faults }
     {
         if self.read_faults == u64::MAX {
             return Kept::NoMemory;
@@ -149,10 +152,7 @@ impl<K: Keeper> Desk<K> {
     pub fn commit(&mut self, alloc: Global, batch: &Batch, state: &StoreState) -> Kept<()>
         requires sure { IsSure self.old }
         requires within { AreWithin batch.now.rows }
-        ensures commits { (c : Content) → K.content self.old.keeper ≡ Some c →
-            Commits c (committed c batch.now state.now) (K.content self.new.keeper) result }
-        ensures failed { OnFailed result (Rose (K.faults self.old.keeper) (K.faults self.new.keeper)) }
-        ensures faults { K.faults self.old.keeper ≤ K.faults self.new.keeper }
+        ensures commits { Commits self.old.keeper batch.now state.now self.new.keeper result }
         ensures after { self.new ≡ after_commit self.new.keeper self.old batch.now.to result }
     {
         let went = self.keeper.commit(alloc, batch, state);
@@ -166,7 +166,7 @@ impl<K: Keeper> Desk<K> {
 
     /// The keeper, apart from what the desk knows of it.
     pub fn into_keeper(self) -> K
-        ensures { result ≡ self.keeper }
+        ensures { K.seen result ≡ self.keeper }
     {
         let Desk { keeper, .. } = self;
         keeper

@@ -1,13 +1,14 @@
 // What is asked of a store.
-ghost use Rattle.std.specs.Prelude.{◌≡◌, ◌≤◌, ◌+◌, ◌++◌, ℕ, Option, length};
+ghost use Rattle.std.specs.Prelude.{◌≡◌, ◌≤◌, ◌+◌, ◌++◌, true, false, Some, length};
 ghost use Rattle.std.specs.FinMap as map;
 ghost use Rattle.std.specs.Option.{option_map};
 ghost use Rattle.ep_model.specs.Limits.{IsKey};
 ghost use Rattle.ep_model.specs.Plain.{value_of};
-ghost use Rattle.ep_model.specs.declared.limits.TheConstants.{MAX_VALUE};
-ghost use Rattle.kv_keeper.specs.Batch.{AreWithin, meta_of};
-ghost use Rattle.kv_keeper.specs.Content.{Content};
-ghost use Rattle.kv_keeper.specs.Kept.{IfGood, OnFailed, Rose, Appends, Commits, Keeps, committed, state_of};
+ghost use Rattle.ep_model.specs.Limits.{max_value};
+ghost use Rattle.ep_model.specs.World.{meta_of};
+ghost use Rattle.kv_keeper.specs.Batch.{AreWithin};
+ghost use Rattle.kv_keeper.specs.Content.{Content, KeeperData};
+ghost use Rattle.kv_keeper.specs.Kept.{Appends, Commits, IfGood, Leaves, OnNoMemory, state_of};
 
 use crate::Batch;
 use ep_model::{Meta, Out};
@@ -31,48 +32,44 @@ pub enum Kept<T> {
     NoMemory,
 }
 
-/// A store of documents and three numbers.
+/// A store of documents and three numbers. Once a commit has failed it is in doubt what the store holds, and then it
+/// may not be called.
 pub trait Keeper: Drop {
-    /// How often it has failed. A count that stands at 2^64 - 1 stays there.
-    ghost faults: { Self → ℕ };
-
-    /// What it holds, where it tells that.
-    ghost content: { Self → Option Content };
+    /// What clauses see of it: what it holds, where it tells that, and how often it has failed. Whether it tells never
+    /// changes. A count that stands at 2^64 - 1 stays there.
+    ghost seen: { Self → KeeperData };
 
     /// Its numbers.
     fn state(&mut self, alloc: Global) -> Kept<StoreState>
+        requires sure { (seen self.old).sure ≡ true }
         ensures good { IfGood result (λ state.
-            (c : Content) → content self.old ≡ Some c → state ≡ state_of c) }
-        ensures keeps { Keeps (content self.old) (content self.new) }
-        ensures failed { OnFailed result (Rose (faults self.old) (faults self.new)) }
-        ensures faults { faults self.old ≤ faults self.new };
+            (c : Content) → (seen self.old).content ≡ Some c → state ≡ state_of c) }
+        ensures left { Leaves (seen self.old) (seen self.new) result };
 
     /// The metadata of a key's document, deleted or not, whose value is appended to `value`; or `None`, where it
     /// has no document of the key. Any other answer leaves `value` as it was.
     fn get(&mut self, alloc: Global, key: &[u8], value: &mut Out) -> Kept<Option<Meta>>
+        requires sure { (seen self.old).sure ≡ true }
         requires key { IsKey key.now }
-        requires spare { MAX_VALUE ≤ value.old.spare }
+        requires spare { max_value ≤ value.old.spare }
 
-        ensures meta { IfGood result (λ meta. (c : Content) → content self.old ≡ Some c →
+        ensures meta { IfGood result (λ meta. (c : Content) → (seen self.old).content ≡ Some c →
             meta ≡ option_map meta_of (map.get c.docs key.now)) }
-        ensures value { IfGood result (λ _. (c : Content) → content self.old ≡ Some c →
+        ensures value { IfGood result (λ _. (c : Content) → (seen self.old).content ≡ Some c →
             value.new.bytes ≡ value.old.bytes ++ value_of (map.get c.docs key.now)) }
-        ensures keeps { Keeps (content self.old) (content self.new) }
 
         // The same of any keeper, whether it tells what it holds or not.
         ensures appends { Appends value.old value.new result }
         ensures room { value.new.spare + length value.new.bytes
             ≡ value.old.spare + length value.old.bytes }
 
-        ensures failed { OnFailed result (Rose (faults self.old) (faults self.new)) }
-        ensures faults { faults self.old ≤ faults self.new };
+        ensures left { Leaves (seen self.old) (seen self.new) result }
+        ensures memory { OnNoMemory result ((seen self.old).ample ≡ false) };
 
     /// Lays the batch over the documents and sets the numbers. After `Failed` it may have done that, or nothing
     /// of it; after `NoMemory` it has done nothing.
     fn commit(&mut self, alloc: Global, batch: &Batch, state: &StoreState) -> Kept<()>
-        requires { AreWithin batch.now.rows }
-        ensures commits { (c : Content) → content self.old ≡ Some c →
-            Commits c (committed c batch.now state.now) (content self.new) result }
-        ensures failed { OnFailed result (Rose (faults self.old) (faults self.new)) }
-        ensures faults { faults self.old ≤ faults self.new };
+        requires sure { (seen self.old).sure ≡ true }
+        requires within { AreWithin batch.now.rows }
+        ensures commits { Commits (seen self.old) batch.now state.now (seen self.new) result };
 }

@@ -17,7 +17,7 @@ mod rows;
 mod tests;
 
 pub use batch::Batch;
-pub use data::{BatchData, DeskData};
+pub use data::{AnyKeeper, BatchData, DeskData};
 pub use desk::Desk;
 pub use keeper::{Keeper, Kept, StoreState};
 pub use memory::MemoryKeeper;

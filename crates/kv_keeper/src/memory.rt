@@ -1,15 +1,16 @@
 // A store in memory.
-ghost use Rattle.std.specs.Prelude.{◌≡◌, ◌≤◌, ◌+◌, ◌++◌, ◌==◌, Some, length};
+ghost use Rattle.std.specs.Prelude.{◌≡◌, ◌≤◌, ◌+◌, ◌++◌, ◌==◌, true, false, Some, length};
 ghost use Rattle.std.specs.FinMap as map;
 ghost use Rattle.std.specs.List.{list_any};
 ghost use Rattle.std.specs.Option.{option_map};
 ghost use Rattle.ep_model.specs.Limits.{IsKey};
 ghost use Rattle.ep_model.specs.Plain.{value_of};
-ghost use Rattle.ep_model.specs.declared.limits.TheConstants.{MAX_VALUE};
-ghost use Rattle.kv_keeper.specs.Batch.{AreWithin, meta_of};
+ghost use Rattle.ep_model.specs.Limits.{max_value};
+ghost use Rattle.ep_model.specs.World.{meta_of};
+ghost use Rattle.kv_keeper.specs.Batch.{AreWithin};
 ghost use Rattle.kv_keeper.specs.Content.{Content};
-ghost use Rattle.kv_keeper.specs.Kept.{IfGood, OnFailed, Rose, Appends, Commits, Keeps, committed, state_of};
-ghost use Rattle.kv_keeper.specs.Memory.{empty_memory, get_answer, get_bytes, after_get, after_commit};
+ghost use Rattle.kv_keeper.specs.Kept.{Appends, Commits, IfGood, Leaves, OnNoMemory, state_of};
+ghost use Rattle.kv_keeper.specs.Memory.{empty_memory, get_answer, get_bytes, after_get, after_commit, keeper_of};
 
 use crate::row::Row;
 use crate::{Batch, Keeper, Kept, StoreState, rows};
@@ -62,19 +63,15 @@ impl MemoryKeeper {
 }
 
 impl Keeper for MemoryKeeper {
-    ghost use Rattle.std.specs.Prelude.{Some};
+    ghost use Rattle.kv_keeper.specs.Memory.{keeper_of};
 
-    ghost faults = { λ m. m.faults };
-
-    ghost content = { λ m. Some m.content };
+    ghost seen = { keeper_of };
 
     /// Its cost is constant.
     fn state(&mut self, _alloc: Global) -> Kept<StoreState>
         ensures good { IfGood result (λ state.
-            (c : Content) → Some self.old.content ≡ Some c → state ≡ state_of c) }
-        ensures keeps { Keeps (Some self.old.content) (Some self.new.content) }
-        ensures failed { OnFailed result (Rose self.old.faults self.new.faults) }
-        ensures faults { self.old.faults ≤ self.new.faults }
+            (c : Content) → (keeper_of self.old).content ≡ Some c → state ≡ state_of c) }
+        ensures left { Leaves (keeper_of self.old) (keeper_of self.new) result }
         ensures answer { result ≡ Kept.Good (state_of self.old.content) }
         ensures after { self.new ≡ self.old }
     {
@@ -85,17 +82,16 @@ impl Keeper for MemoryKeeper {
     /// of reads that fail. Memory is never wanting.
     fn get(&mut self, _alloc: Global, key: &[u8], value: &mut Out) -> Kept<Option<Meta>>
         requires key { IsKey key.now }
-        requires spare { MAX_VALUE ≤ value.old.spare }
-        ensures meta { IfGood result (λ meta. (c : Content) → Some self.old.content ≡ Some c →
+        requires spare { max_value ≤ value.old.spare }
+        ensures meta { IfGood result (λ meta. (c : Content) → (keeper_of self.old).content ≡ Some c →
             meta ≡ option_map meta_of (map.get c.docs key.now)) }
-        ensures value { IfGood result (λ _. (c : Content) → Some self.old.content ≡ Some c →
+        ensures value { IfGood result (λ _. (c : Content) → (keeper_of self.old).content ≡ Some c →
             value.new.bytes ≡ value.old.bytes ++ value_of (map.get c.docs key.now)) }
-        ensures keeps { Keeps (Some self.old.content) (Some self.new.content) }
         ensures appends { Appends value.old value.new result }
         ensures room { value.new.spare + length value.new.bytes
             ≡ value.old.spare + length value.old.bytes }
-        ensures failed { OnFailed result (Rose self.old.faults self.new.faults) }
-        ensures faults { self.old.faults ≤ self.new.faults }
+        ensures left { Leaves (keeper_of self.old) (keeper_of self.new) result }
+        ensures memory { OnNoMemory result ((keeper_of self.old).ample ≡ false) }
         ensures answer { result ≡ get_answer self.old key.now }
         ensures bytes { value.new.bytes ≡ get_bytes self.old key.now value.old.bytes }
         ensures after { self.new ≡ after_get self.old }
@@ -115,11 +111,8 @@ impl Keeper for MemoryKeeper {
     /// Its cost is linear in the product of the numbers of documents and of the batch's rows. Where memory is
     /// wanting, nothing has changed.
     fn commit(&mut self, alloc: Global, batch: &Batch, state: &StoreState) -> Kept<()>
-        requires { AreWithin batch.now.rows }
-        ensures commits { (c : Content) → Some self.old.content ≡ Some c →
-            Commits c (committed c batch.now state.now) (Some self.new.content) result }
-        ensures failed { OnFailed result (Rose self.old.faults self.new.faults) }
-        ensures faults { self.old.faults ≤ self.new.faults }
+        requires within { AreWithin batch.now.rows }
+        ensures commits { Commits (keeper_of self.old) batch.now state.now (keeper_of self.new) result }
         ensures never_fails { result ≡ Kept.Failed → ⊥ }
         ensures after { self.new ≡ after_commit self.old batch.now state.now result }
     {

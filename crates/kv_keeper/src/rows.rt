@@ -3,7 +3,8 @@ ghost use Rattle.std.specs.Prelude.{◌≡◌, ◌+◌, ◌<◌, ◌≤◌, leng
 ghost use Rattle.std.specs.FinMap as map;
 ghost use Rattle.std.specs.Option.{option_map, option_copied, ForSome};
 ghost use Rattle.ep_model.specs.Limits.{IsKey, IsValue};
-ghost use Rattle.kv_keeper.specs.Batch.{laid, with_row, doc_from};
+ghost use Rattle.ep_model.specs.World.{doc_from};
+ghost use Rattle.kv_keeper.specs.Batch.{laid, with_row};
 ghost use Rattle.kv_keeper.specs.Rows.{entry_of, entries_of, docs_of, doc_of, place_of};
 
 use crate::row::Row;

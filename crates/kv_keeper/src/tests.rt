@@ -1,7 +1,9 @@
 // Batches, commits and reads with their bytes written out, and a keeper that always fails.
-ghost use Rattle.std.specs.Prelude.{◌≡◌, IfOk};
+ghost use Rattle.std.specs.Prelude.{◌≡◌, ◌≤◌, true, IfOk};
 ghost use Rattle.ep_model.specs.Limits.{IsKey};
 ghost use Rattle.kv_keeper.specs.Batch.{AreWithin};
+ghost use Rattle.ep_model.specs.Counts.{Rose};
+ghost use Rattle.ep_model.specs.Counts.{raised};
 
 use crate::{Batch, Desk, Keeper, Kept, MemoryKeeper, StoreState};
 use ep_model::limits::MAX_VALUE;
@@ -60,7 +62,9 @@ fn expect<K: Keeper>(
     wanted: Kept<Option<Meta>>,
     value: &[u8],
 ) -> Result<(), NoMemory>
-    requires { IsKey key.now }
+    requires sure { (K.seen keeper.old).sure ≡ true }
+    requires key { IsKey key.now }
+    ensures { (K.seen keeper.new).sure ≡ true }
 {
     let mut out = Out::new(alloc, MAX_VALUE)?;
     assert_eq!(rt; keeper.get(alloc, key, &mut out), wanted);
@@ -68,32 +72,40 @@ fn expect<K: Keeper>(
     Ok(())
 }
 
-/// A keeper that always fails.
+/// A keeper that always fails, and doesn't tell what it holds.
 #[derive(Drop)]
 struct Broken {
+    sure: bool,
     faults: u64,
 }
 
-impl Keeper for Broken {
-    ghost use Rattle.std.specs.Prelude.{None};
-
-    ghost faults = { λ b. b.faults };
-
-    ghost content = { λ _. None };
-
-    fn state(&mut self, _alloc: Global) -> Kept<StoreState> {
+impl Broken {
+    fn fail<T>(&mut self) -> Kept<T>
+        ensures after { self.new ≡ record self.old { faults = raised self.old.faults } }
+        ensures failed { result ≡ Kept.Failed }
+        ensures rose { (self.old.faults ≤ self.new.faults) × Rose self.old.faults self.new.faults }
+    {
         self.faults = self.faults.saturating_add(1);
         Kept::Failed
+    }
+}
+
+impl Keeper for Broken {
+    ghost use Rattle.std.specs.Prelude.{None, false};
+
+    ghost seen = { λ b. record { content = None; second = None; sure = b.sure; faults = b.faults; ample = false } };
+
+    fn state(&mut self, _alloc: Global) -> Kept<StoreState> {
+        self.fail()
     }
 
     fn get(&mut self, _alloc: Global, _key: &[u8], _value: &mut Out) -> Kept<Option<Meta>> {
-        self.faults = self.faults.saturating_add(1);
-        Kept::Failed
+        self.fail()
     }
 
     fn commit(&mut self, _alloc: Global, _batch: &Batch, _state: &StoreState) -> Kept<()> {
-        self.faults = self.faults.saturating_add(1);
-        Kept::Failed
+        self.sure = false;
+        self.fail()
     }
 }
 
@@ -227,7 +239,10 @@ fn a_desk_knows_what_is_stored(rt: HostRuntime) -> Result<(), Fail> {
 #[test]
 fn a_commit_that_failed_leaves_a_desk_in_doubt(rt: HostRuntime) -> Result<(), Fail> {
     let alloc = rt.alloc();
-    let mut desk = Desk::new(Broken { faults: 0 });
+    let mut desk = Desk::new(Broken {
+        sure: true,
+        faults: 0,
+    });
     let batch = batch_of(&rt, alloc, 2, &[(1, b"a", b"one")])?;
     assert_eq!(rt; desk.state(alloc), Kept::Failed);
     assert!(rt; desk.is_sure());

@@ -1,5 +1,6 @@
 use Rattle.std.proofs.Common.{◌≡◌, List, length, sym, ap, subst, ◌∙◌}
-use Rattle.kv_keeper.specs.Batch.{AreDistinct, Entry, doc_from, laid, with_row}
+use Rattle.ep_model.specs.World.{doc_from}
+use Rattle.kv_keeper.specs.Batch.{AreDistinct, Entry, laid, with_row}
 use Rattle.kv_keeper.specs.Rows.{entries_of}
 use Rattle.kv_keeper.proofs.BatchLemmas.{laid-with_row, length-with_row, distinct-with_row}
 use Rattle.kv_keeper.proofs.RowLemmas.{rows-within, batch-within, batch-distinct, added}
