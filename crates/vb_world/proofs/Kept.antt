@@ -3,12 +3,12 @@ use Rattle.std.proofs.Common.{◌≡◌, ℕ, ◌≤◌, List, [], ◌∷◌, �
 use Rattle.std.proofs.lemmas.List.{drop-append-le, take-append-le, map-append, length-drop}
 use Rattle.std.specs.Prelude.{Result, Ok, Err, OnErr}
 use Rattle.ep_model.specs.declared.data.EventData.{EventData}
-use Rattle.vb_world.specs.declared.row.Span.{Span}
-use Rattle.vb_world.specs.declared.row.KeptCall.{KeptCall}
-use Rattle.vb_world.specs.declared.row.KeptCall.TheVariants as kept
-use Rattle.vb_world.specs.declared.row.KeptEvent.{KeptEvent}
-use Rattle.vb_world.specs.declared.row.KeptEvent.TheVariants.{Called, Refused, Expired, Persisted, Marked, Asked, ReadFailed, Opened}
-use Rattle.vb_world.specs.Row.{spanned, call_in, event_in, pair_in, pairs_in, IsInside, IsCallInside, IsEventInside, AreInside, Extends}
+use Rattle.vb_world.specs.declared.event_log.Span.{Span}
+use Rattle.vb_world.specs.declared.event_log.KeptCall.{KeptCall}
+use Rattle.vb_world.specs.declared.event_log.KeptCall.TheVariants as kept
+use Rattle.vb_world.specs.declared.event_log.KeptEvent.{KeptEvent}
+use Rattle.vb_world.specs.declared.event_log.KeptEvent.TheVariants.{Called, Refused, Expired, Persisted, Marked, Asked, ReadFailed, Opened}
+use Rattle.vb_world.specs.EventLog.{spanned, call_in, event_in, pair_in, pairs_in, IsInside, IsCallInside, IsEventInside, AreInside, Extends}
 
 spanned-append : (xs ys : List ℕ) (s : Span) → IsInside (length xs) s → spanned (xs ++ ys) s ≡ spanned xs s
 spanned-append xs ys s h =

@@ -11,7 +11,8 @@ use Rattle.ep_model.specs.declared.data.StartData.{StartData}
 use Rattle.ep_model.specs.Front.{with_event, with_start}
 use Rattle.ep_model.specs.Legal.{May}
 use Rattle.hold_stage.specs.Touches.{there, same_part}
-use Rattle.hold_stage.specs.Grows.{Rose, and_this, but_this, Covered, Grown, Noted, Begun}
+use Rattle.ep_model.specs.Counts.{Rose}
+use Rattle.hold_stage.specs.Grows.{and_this, but_this, Covered, Grown, Noted, Begun}
 use Rattle.hold_stage.specs.Laws.{TouchesSome}
 use Rattle.vb_world.specs.declared.place.Place.TheVariants.{Home, Out}
 use Rattle.vb_world.specs.declared.data.BucketData.{BucketData}

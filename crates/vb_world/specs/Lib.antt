@@ -1,4 +1,4 @@
-pub mod Row
+pub mod EventLog
 pub mod History
 pub mod World
 pub mod Buckets

@@ -1,10 +1,10 @@
 // The stored history of many vBuckets.
 ghost use Rattle.std.specs.Prelude.{◌≡◌, ◌∷◌, [], ◌++◌, ◌<◌, length, OnOk, OnErr, slice_get, Some};
 ghost use Rattle.ep_model.specs.History.{event_data};
-ghost use Rattle.vb_world.specs.Row.{pairs_of, IsWhole};
+ghost use Rattle.vb_world.specs.EventLog.{pairs_of, IsWhole};
 
-use crate::row;
-use crate::row::Row;
+use crate::event_log;
+use crate::event_log::EventLog;
 use ep_model::{Event, NoMemory};
 use std::alloc::Global;
 use std::marker::Model;
@@ -13,19 +13,19 @@ use std::marker::Model;
 /// is noted, by the bytes of each call and answer and a constant for each event.
 #[derive(Drop)]
 pub struct History {
-    row: Row,
+    log: EventLog,
 }
 
 impl Model for History {
     ghost use Rattle.std.specs.Prelude.{ℕ, List};
     ghost use Rattle.ep_model.specs.declared.data.EventData.{EventData};
-    ghost use Rattle.vb_world.specs.Row.{pairs_of, IsWhole};
+    ghost use Rattle.vb_world.specs.EventLog.{pairs_of, IsWhole};
 
     ghost Value = { List (ℕ × EventData) };
 
-    ghost view = { λ h. pairs_of h.row };
+    ghost view = { λ h. pairs_of h.log };
 
-    ghost invariant = { λ h. IsWhole h.row };
+    ghost invariant = { λ h. IsWhole h.log };
 }
 
 impl History {
@@ -34,19 +34,19 @@ impl History {
         ensures { result ≡ [] }
     {
         History {
-            row: Row {
+            log: EventLog {
                 events: Vec::new(alloc),
                 bytes: Vec::new(alloc),
             },
         }
     }
 
-    // The events that a row holds.
-    pub(crate) fn of_row(row: Row) -> History
-        requires { IsWhole row }
-        ensures { result ≡ pairs_of row }
+    // The events that a log holds.
+    pub(crate) fn of_log(log: EventLog) -> History
+        requires { IsWhole log }
+        ensures { result ≡ pairs_of log }
     {
-        History { row }
+        History { log }
     }
 
     /// Notes an event of the vBucket `vb`. At an error nothing was noted. Its cost is linear in the bytes of
@@ -55,14 +55,14 @@ impl History {
         ensures ok { OnOk result (self.new ≡ self.old ++ (vb, event_data event.now) ∷ []) }
         ensures err { OnErr result (self.new ≡ self.old) }
     {
-        row::note(&mut self.row, vb, event)
+        event_log::note(&mut self.log, vb, event)
     }
 
     /// How many events it has.
     pub fn count(&self) -> usize
         ensures { result ≡ length self.now }
     {
-        self.row.events.len()
+        self.log.events.len()
     }
 
     /// One event, counted from 0, with the number of its vBucket. It takes constant time.
@@ -70,6 +70,6 @@ impl History {
         requires { index < length self.now }
         ensures { slice_get self.now index ≡ Some (result.0, event_data result.1) }
     {
-        row::lend_event(&self.row, index)
+        event_log::lend_event(&self.log, index)
     }
 }

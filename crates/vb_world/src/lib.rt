@@ -1,11 +1,11 @@
-//! The vBuckets of a bucket for one thread: their parts, and their histories in one row of memory.
+//! The vBuckets of a bucket for one thread: their parts, and their histories in one log.
 #![tactic(auto)]
 
 mod data;
+mod event_log;
 mod history;
 mod origin;
 mod place;
-mod row;
 mod stage;
 mod world;
 

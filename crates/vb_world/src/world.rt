@@ -8,11 +8,11 @@ ghost use Rattle.hold_stage.specs.Touches.{there, touches, bytes_of};
 ghost use Rattle.vb_world.specs.declared.place.Place.TheVariants.{Home as AtHome, Out as OutWith};
 ghost use Rattle.vb_world.specs.World.{front_in, part_in, with_place, with_origin, with_loss, with_bucket, empty_world, StandBare, Sound};
 
+use crate::event_log;
+use crate::event_log::EventLog;
 use crate::history::History;
 use crate::origin::Origin;
 use crate::place::{Bucket, Place, bucket_of, put_at, slot_of, take_at};
-use crate::row;
-use crate::row::Row;
 use ep_model::{Busy, Config, Event, NoMemory, PartName};
 use hold_stage::{Beginning, Stands};
 use std::alloc::Global;
@@ -23,22 +23,22 @@ use std::marker::Model;
 #[derive(Drop)]
 pub struct World<P: Stands + Drop> {
     config: Config,
-    row: Row,
+    log: EventLog,
     buckets: Vec<Bucket<P>>,
     losses: u64,
 }
 
 impl<P: Stands + Drop> Model for World<P> {
     ghost use Rattle.vb_world.specs.declared.data.WorldData.{WorldData};
-    ghost use Rattle.vb_world.specs.Row.{IsWhole};
+    ghost use Rattle.vb_world.specs.EventLog.{IsWhole};
     ghost use Rattle.vb_world.specs.Buckets.{world_data};
     ghost use Rattle.vb_world.specs.World.{Sound};
 
     ghost Value = { WorldData P };
 
-    ghost view = { λ w. world_data w.config w.row w.buckets.items w.losses };
+    ghost view = { λ w. world_data w.config w.log w.buckets.items w.losses };
 
-    ghost invariant = { λ w. IsWhole w.row × Sound P.stands (world_data w.config w.row w.buckets.items w.losses) };
+    ghost invariant = { λ w. IsWhole w.log × Sound P.stands (world_data w.config w.log w.buckets.items w.losses) };
 }
 
 impl<P: Stands + Drop> World<P> {
@@ -52,7 +52,7 @@ impl<P: Stands + Drop> World<P> {
         let buckets = Vec::with_capacity(alloc, usize::from(config.vbuckets))?;
         Ok(World {
             config: *config,
-            row: Row {
+            log: EventLog {
                 events: Vec::new(alloc),
                 bytes: Vec::new(alloc),
             },
@@ -86,7 +86,7 @@ impl<P: Stands + Drop> World<P> {
         ensures bytes { self.old.byte_room ≤ self.new.byte_room }
         ensures sound { Sound P.stands self.new }
     {
-        row::reserve(&mut self.row, events, bytes)
+        event_log::reserve(&mut self.log, events, bytes)
     }
 
     /// How many vBuckets it has. Constant time.
@@ -101,7 +101,7 @@ impl<P: Stands + Drop> World<P> {
     pub fn into_history(self) -> History
         ensures { result ≡ self.history }
     {
-        History::of_row(self.row)
+        History::of_log(self.log)
     }
 
     // Takes a part out for a caller, or counts that it was out, or that there is no such vBucket.
@@ -138,7 +138,7 @@ impl<P: Stands + Drop> World<P> {
         ensures was_sound { Sound P.stands self.old }
         ensures sound { Sound P.stands self.new }
     {
-        let noted = row::note(&mut self.row, vb, event);
+        let noted = event_log::note(&mut self.log, vb, event);
         prove!(noted.is_ok());
     }
 

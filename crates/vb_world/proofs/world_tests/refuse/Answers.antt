@@ -36,4 +36,4 @@ note-requires-clause-may g c =
     may _ c.args.caller 5 (ap (λ (f : FrontData). f.events) (c.take.ensures.alone c.requires.telling) ∙ c.requires.events)
 
 pub note-requires-clause-own : goal.note-requires-clause-own
-note-requires-clause-own g c = own _ c.args.caller 5 _ (c.take.ensures.stays.2 ∙ c.requires.number)
+note-requires-clause-own g c = own _ c.args.caller 5 _ (c.take.ensures.stays.number ∙ c.requires.number)

@@ -9,7 +9,7 @@ pub begin-requires-clause-away : goal.begin-requires-clause-away
 begin-requires-clause-away g c = let s = c.args.self.now in all_away s.world.now s.vb s.caller c.requires.all
 
 pub returns-clause-stays : goal.returns-clause-stays
-returns-clause-stays g c = let s = c.args.self.now in (refl, begin_fixed s.world.now c.begin.new.self s.vb g.B.Beginning.start c.begin.ensures.begun, refl, refl, refl)
+returns-clause-stays g c = let s = c.args.self.now in record { lent = refl; fixed = begin_fixed s.world.now c.begin.new.self s.vb g.B.Beginning.start c.begin.ensures.begun; number = refl; desk = refl; telling = refl }
 
 pub returns-clause-begun : goal.returns-clause-begun
 returns-clause-begun g c =

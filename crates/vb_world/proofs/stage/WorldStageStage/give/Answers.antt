@@ -3,7 +3,7 @@ use Rattle.vb_world.proofs.Stages.{give_fixed, give_front, give_held, give_tells
 use Rattle.vb_world.proofs.stage.WorldStageStage.give.Goals as goal
 
 pub returns-clause-stays : goal.returns-clause-stays
-returns-clause-stays g c = let s = c.args.self.now in (refl, give_fixed s.world.now c.give.new.self s.vb c.args.part c.args.value c.give.ensures.given, refl, refl, refl)
+returns-clause-stays g c = let s = c.args.self.now in record { lent = refl; fixed = give_fixed s.world.now c.give.new.self s.vb c.args.part c.args.value c.give.ensures.given; number = refl; desk = refl; telling = refl }
 
 pub returns-clause-front : goal.returns-clause-front
 returns-clause-front g c = let s = c.args.self.now in give_front s.world.now c.give.new.self s.vb c.args.part c.args.value c.give.ensures.given

@@ -7,7 +7,7 @@ use Rattle.vb_world.proofs.stage.WorldStageStage.take.Goals as goal
 pub returns-clause-stays : goal.returns-clause-stays
 returns-clause-stays g c =
     let s = c.args.self.now in let t = c.take.ensures in
-    (refl, take_fixed s.world.now c.take.new.self s.vb s.caller c.args.part c.take.result t.out t.lost, refl, refl, refl)
+    record { lent = refl; fixed = take_fixed s.world.now c.take.new.self s.vb s.caller c.args.part c.take.result t.out t.lost; number = refl; desk = refl; telling = refl }
 
 pub returns-clause-grown : goal.returns-clause-grown
 returns-clause-grown g c =

@@ -9,7 +9,7 @@ use Rattle.vb_world.proofs.world.World.begin.Goals as goal
 pub invariant_of-self : goal.invariant_of-self
 invariant_of-self g c =
     let i = c.self.inside in
-    let w : WorldData g.row.P.Denot = world_data i.config i.row i.buckets.items i.losses in
+    let w : WorldData g.row.P.Denot = world_data i.config i.log i.buckets.items i.losses in
     let within = is_there g.P.Stands.stands w c.args.self.now c.args.vb c.from.result i.buckets.items c.self.view_is refl c.from.ensures c.requires.vb in (
       c.self.invariant.0,
       began g.P.Stands.stands w c.args.self.now c.args.vb c.from.result g.B.Beginning.start _ legal_begun c.self.invariant.1 c.self.view_is c.requires.vb c.requires.none c.requires.away c.from.ensures
@@ -19,7 +19,7 @@ invariant_of-self g c =
 pub returns-clause-begun : goal.returns-clause-begun
 returns-clause-begun g c =
     let i = c.self.inside in
-    let w : WorldData g.row.P.Denot = world_data i.config i.row i.buckets.items i.losses in
+    let w : WorldData g.row.P.Denot = world_data i.config i.log i.buckets.items i.losses in
     let within = is_there g.P.Stands.stands w c.args.self.now c.args.vb c.from.result i.buckets.items c.self.view_is refl c.from.ensures c.requires.vb in
     begun_world g.P.Stands.stands w c.args.self.now c.args.vb c.from.result g.B.Beginning.start _ c.self.view_is c.from.ensures
     (begun_in i.buckets.items c.from.result c.index_mut-bucket.result.now c.at-bucket.result g.B.Beginning.start within c.index_mut-bucket.ensures.value c.at-bucket.ensures)
@@ -27,7 +27,7 @@ returns-clause-begun g c =
 pub returns-clause-sound : goal.returns-clause-sound
 returns-clause-sound g c =
     let i = c.self.inside in
-    let w : WorldData g.row.P.Denot = world_data i.config i.row i.buckets.items i.losses in
+    let w : WorldData g.row.P.Denot = world_data i.config i.log i.buckets.items i.losses in
     let within = is_there g.P.Stands.stands w c.args.self.now c.args.vb c.from.result i.buckets.items c.self.view_is refl c.from.ensures c.requires.vb in
     began g.P.Stands.stands w c.args.self.now c.args.vb c.from.result g.B.Beginning.start _ legal_begun c.self.invariant.1 c.self.view_is c.requires.vb c.requires.none c.requires.away c.from.ensures
     (begun_in i.buckets.items c.from.result c.index_mut-bucket.result.now c.at-bucket.result g.B.Beginning.start within c.index_mut-bucket.ensures.value c.at-bucket.ensures)

@@ -1,5 +1,5 @@
 use Rattle.std.proofs.Common.{map, ap}
-use Rattle.vb_world.specs.Row.{pairs_in}
+use Rattle.vb_world.specs.EventLog.{pairs_in}
 use Rattle.vb_world.specs.Buckets.{bucket_data}
 use Rattle.vb_world.proofs.Turns.{made}
 use Rattle.vb_world.proofs.world.World.new.Goals as goal

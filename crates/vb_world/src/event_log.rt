@@ -1,8 +1,8 @@
-// Events of many vBuckets in one row: what they say in order, and behind one another their bytes.
+// Events of many vBuckets in one log: what they say in order, and behind one another their bytes.
 ghost use Rattle.std.specs.Prelude.{◌≡◌, ◌∷◌, [], ◌++◌, ◌+◌, ◌<◌, ◌≤◌, length, vec_len, vec_capacity, IsOk, IfOk, OnOk, OnErr, slice_get, Some};
 ghost use Rattle.ep_model.specs.History.{call_data, event_data};
 ghost use Rattle.hold_stage.specs.Touches.{bytes_of_call, bytes_of};
-ghost use Rattle.vb_world.specs.Row.{Extends, KeepsCall, call_in, event_in, spanned, IsInside, IsCallInside, IsEventInside, pairs_of, IsWhole, event_room, byte_room};
+ghost use Rattle.vb_world.specs.EventLog.{Extends, KeepsCall, call_in, event_in, spanned, IsInside, IsCallInside, IsEventInside, pairs_of, IsWhole, event_room, byte_room};
 
 use ep_model::{Call, Cause, Event, NoMemory, Reply, StoreKind, Ticket, VbState};
 use std::alloc::AllocError;
@@ -14,7 +14,7 @@ pub struct Span {
     pub len: usize,
 }
 
-// A call whose bytes lie in a row beside it.
+// A call whose bytes lie in a log beside it.
 #[derive(Clone, Copy)]
 pub enum KeptCall {
     Get {
@@ -61,7 +61,7 @@ pub enum KeptCall {
     GetState,
 }
 
-// An event whose bytes lie in a row beside it.
+// An event whose bytes lie in a log beside it.
 #[derive(Clone, Copy)]
 pub enum KeptEvent {
     Called {
@@ -102,7 +102,7 @@ pub enum KeptEvent {
 
 // Events in order, each with its vBucket, and the bytes of all of them.
 #[derive(Drop)]
-pub struct Row {
+pub struct EventLog {
     pub events: Vec<(u16, KeptEvent)>,
     pub bytes: Vec<u8>,
 }
@@ -300,7 +300,7 @@ fn lend(bytes: &[u8], span: Span) -> &[u8]
     &bytes[span.from..span.from + span.len]
 }
 
-// A call as it was, out of the row that its bytes lie in.
+// A call as it was, out of the log that its bytes lie in.
 fn lend_call(bytes: &[u8], call: KeptCall) -> Call<'_>
     requires { IsCallInside (length bytes.now) call }
     ensures { call_data result ≡ call_in bytes.now call }
@@ -370,7 +370,7 @@ fn lend_call(bytes: &[u8], call: KeptCall) -> Call<'_>
     }
 }
 
-// An event as it was, out of the row that its bytes lie in.
+// An event as it was, out of the log that its bytes lie in.
 fn lend_kept(bytes: &[u8], event: KeptEvent) -> Event<'_>
     requires { IsEventInside (length bytes.now) event }
     ensures { event_data result ≡ event_in bytes.now event }
@@ -422,39 +422,39 @@ fn lend_kept(bytes: &[u8], event: KeptEvent) -> Event<'_>
 
 // Notes an event of a vBucket. At an error nothing was noted. It never fails where there is room for one event and
 // its bytes.
-pub fn note(row: &mut Row, vb: u16, event: &Event) -> Result<(), NoMemory>
-    requires whole { IsWhole row.old }
-    ensures whole { IsWhole row.new }
-    ensures ok { OnOk result (pairs_of row.new ≡ pairs_of row.old ++ (vb, event_data event.now) ∷ []) }
-    ensures err { OnErr result (pairs_of row.new ≡ pairs_of row.old) }
-    ensures room { 1 ≤ event_room row.old → bytes_of (event_data event.now) ≤ byte_room row.old → IsOk result }
-    ensures events { event_room row.old ≤ event_room row.new + 1 }
-    ensures bytes { byte_room row.old ≤ byte_room row.new + bytes_of (event_data event.now) }
+pub fn note(log: &mut EventLog, vb: u16, event: &Event) -> Result<(), NoMemory>
+    requires whole { IsWhole log.old }
+    ensures whole { IsWhole log.new }
+    ensures ok { OnOk result (pairs_of log.new ≡ pairs_of log.old ++ (vb, event_data event.now) ∷ []) }
+    ensures err { OnErr result (pairs_of log.new ≡ pairs_of log.old) }
+    ensures room { 1 ≤ event_room log.old → bytes_of (event_data event.now) ≤ byte_room log.old → IsOk result }
+    ensures events { event_room log.old ≤ event_room log.new + 1 }
+    ensures bytes { byte_room log.old ≤ byte_room log.new + bytes_of (event_data event.now) }
 {
-    let kept = keep_event(&mut row.bytes, event)?;
-    row.events.push((vb, kept))?;
+    let kept = keep_event(&mut log.bytes, event)?;
+    log.events.push((vb, kept))?;
     Ok(())
 }
 
 // Takes room for so many more events and bytes.
-pub fn reserve(row: &mut Row, events: usize, bytes: usize) -> Result<(), NoMemory>
-    ensures whole { IsWhole row.old → IsWhole row.new }
-    ensures pairs { pairs_of row.new ≡ pairs_of row.old }
-    ensures ok { OnOk result ((events ≤ event_room row.new) × (bytes ≤ byte_room row.new)) }
-    ensures events { event_room row.old ≤ event_room row.new }
-    ensures bytes { byte_room row.old ≤ byte_room row.new }
+pub fn reserve(log: &mut EventLog, events: usize, bytes: usize) -> Result<(), NoMemory>
+    ensures whole { IsWhole log.old → IsWhole log.new }
+    ensures pairs { pairs_of log.new ≡ pairs_of log.old }
+    ensures ok { OnOk result ((events ≤ event_room log.new) × (bytes ≤ byte_room log.new)) }
+    ensures events { event_room log.old ≤ event_room log.new }
+    ensures bytes { byte_room log.old ≤ byte_room log.new }
 {
-    row.events.reserve(events)?;
-    row.bytes.reserve(bytes)?;
+    log.events.reserve(events)?;
+    log.bytes.reserve(bytes)?;
     Ok(())
 }
 
 // One event, counted from 0, with its vBucket.
-pub fn lend_event(row: &Row, index: usize) -> (u16, Event<'_>)
-    requires whole { IsWhole row.now }
-    requires index { index < length (pairs_of row.now) }
-    ensures { slice_get (pairs_of row.now) index ≡ Some (result.0, event_data result.1) }
+pub fn lend_event(log: &EventLog, index: usize) -> (u16, Event<'_>)
+    requires whole { IsWhole log.now }
+    requires index { index < length (pairs_of log.now) }
+    ensures { slice_get (pairs_of log.now) index ≡ Some (result.0, event_data result.1) }
 {
-    let (vb, event) = row.events[index];
-    (vb, lend_kept(&row.bytes, event))
+    let (vb, event) = log.events[index];
+    (vb, lend_kept(&log.bytes, event))
 }

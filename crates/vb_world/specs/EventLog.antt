@@ -1,16 +1,16 @@
--- How a row of memory stands for events: their bytes lie in it one behind the other, and each event says where.
+-- How a log in memory stands for events: their bytes lie in it one behind the other, and each event says where.
 use Rattle.std.specs.Prelude.{◌≡◌, ℕ, ◌+◌, ◌-◌, ◌≤◌, List, ◌++◌, length, take, drop, map, vec_len, vec_capacity}
 use Rattle.std.specs.List.{AllByRecursion}
 use Rattle.ep_model.specs.declared.data.CallData.{CallData}
 use Rattle.ep_model.specs.declared.data.CallData.TheVariants as calls
 use Rattle.ep_model.specs.declared.data.EventData.{EventData}
 use Rattle.ep_model.specs.declared.data.EventData.TheVariants as events
-use Rattle.vb_world.specs.declared.row.Span.{Span}
-use Rattle.vb_world.specs.declared.row.KeptCall.{KeptCall}
-use Rattle.vb_world.specs.declared.row.KeptCall.TheVariants as kept
-use Rattle.vb_world.specs.declared.row.KeptEvent.{KeptEvent}
-use Rattle.vb_world.specs.declared.row.KeptEvent.TheVariants.{Called, Refused, Expired, Persisted, Marked, Asked, ReadFailed, Opened}
-use Rattle.vb_world.specs.declared.row.Row.{Row}
+use Rattle.vb_world.specs.declared.event_log.Span.{Span}
+use Rattle.vb_world.specs.declared.event_log.KeptCall.{KeptCall}
+use Rattle.vb_world.specs.declared.event_log.KeptCall.TheVariants as kept
+use Rattle.vb_world.specs.declared.event_log.KeptEvent.{KeptEvent}
+use Rattle.vb_world.specs.declared.event_log.KeptEvent.TheVariants.{Called, Refused, Expired, Persisted, Marked, Asked, ReadFailed, Opened}
+use Rattle.vb_world.specs.declared.event_log.EventLog.{EventLog}
 
 -- the bytes of a span
 abbrev pub spanned : List ℕ → Span → List ℕ
@@ -45,9 +45,9 @@ pair_in bytes p = (p.0, event_in bytes p.1)
 abbrev pub pairs_in : List ℕ → List (ℕ × KeptEvent) → List (ℕ × EventData)
 pairs_in bytes pairs = map (pair_in bytes) pairs
 
--- the events of a row in order, each with its vBucket
-abbrev pub pairs_of : Row → List (ℕ × EventData)
-pairs_of row = pairs_in row.bytes.items row.events.items
+-- the events of a log in order, each with its vBucket
+abbrev pub pairs_of : EventLog → List (ℕ × EventData)
+pairs_of log = pairs_in log.bytes.items log.events.items
 
 -- it lies within so many bytes
 abbrev pub IsInside : ℕ → Span → Type 0
@@ -78,16 +78,16 @@ IsEventInside n Opened = Unit {0}
 abbrev pub AreInside : ℕ → List (ℕ × KeptEvent) → Type 0
 AreInside n pairs = AllByRecursion (λ (p : ℕ × KeptEvent). IsEventInside n p.1) pairs
 
--- whatever an event of the row says lies in it
-abbrev pub IsWhole : Row → Type 0
-IsWhole row = AreInside (length row.bytes.items) row.events.items
+-- whatever an event of the log says lies in it
+abbrev pub IsWhole : EventLog → Type 0
+IsWhole log = AreInside (length log.bytes.items) log.events.items
 
--- how many more events, and how many more bytes of them, the row takes without growing
-abbrev pub event_room : Row → ℕ
-event_room row = vec_capacity row.events - vec_len row.events
+-- how many more events, and how many more bytes of them, the log takes without growing
+abbrev pub event_room : EventLog → ℕ
+event_room log = vec_capacity log.events - vec_len log.events
 
-abbrev pub byte_room : Row → ℕ
-byte_room row = vec_capacity row.bytes - vec_len row.bytes
+abbrev pub byte_room : EventLog → ℕ
+byte_room log = vec_capacity log.bytes - vec_len log.bytes
 
 -- new is old with bytes behind it
 abbrev pub Extends : List ℕ → List ℕ → Type 0
