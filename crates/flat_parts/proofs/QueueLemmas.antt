@@ -3,7 +3,7 @@ use Rattle.std.proofs.Common.{◌≡◌, ℕ, Bool, List, ap, ◌∙◌}
 use Rattle.std.specs.Prelude.{filter, nat_lt}
 use Rattle.ep_model.specs.declared.call.VbState.{VbState}
 use Rattle.ep_model.specs.World.{Doc}
-use Rattle.hold_stage.specs.Mutations.{above}
+use Rattle.ep_model.specs.Mutations.{above}
 use Rattle.flat_parts.specs.declared.data.QueueData.{QueueData}
 use Rattle.flat_parts.specs.declared.queue.Item.{Item}
 use Rattle.flat_parts.specs.Flat.{item_data, items_data, queue_data}

@@ -11,8 +11,8 @@ use Rattle.ep_model.specs.declared.call.StoreKind.TheVariants.{Set}
 use Rattle.ep_model.specs.declared.data.CallData.TheVariants.{Store}
 use Rattle.ep_model.specs.declared.event.Cause.TheVariants as causes
 use Rattle.ep_model.specs.declared.event.Ticket.{Ticket}
-use Rattle.ep_model.specs.declared.status.TheConstants.{SUCCESS}
-use Rattle.ep_model.specs.World.{Doc, World, empty_world, is_live, live_of, next_doc, stamp, stored_expiry}
+use Rattle.ep_model.specs.Statuses.{success}
+use Rattle.ep_model.specs.World.{Doc, World, empty_world, is_live, live_of, next_doc, stamp, stored_expiry, doc_from}
 use Rattle.ep_model.specs.Refusals.{state_refusal, size_refusal, cas_refusal, number_refusal}
 use Rattle.ep_model.specs.Answer.{Answer, Puts, answer, cas_of, put_success, refused, unless}
 use Rattle.flat_parts.specs.declared.data.NodeData.{NodeData}
@@ -20,23 +20,23 @@ use Rattle.flat_parts.specs.declared.data.StripeData.{StripeData}
 use Rattle.flat_parts.specs.declared.data.QueueData.{QueueData}
 use Rattle.flat_parts.specs.declared.data.WriteData.{WriteData}
 use Rattle.flat_parts.specs.declared.data.Step.TheVariants.{Done, Refused}
-use Rattle.flat_parts.specs.Nodes.{doc_of, node_at, released}
+use Rattle.flat_parts.specs.Nodes.{node_at, released}
 use Rattle.flat_parts.specs.Steps.{shown_value, shown_docs, shown_world, stripe_after, queue_after, write_step}
 use Rattle.flat_parts.specs.Writes.{live_cas, write_refusal}
 
 -- the document that the parts show under the key
-shown-get : (key : List ℕ) (o : Option NodeData) → get (shown_docs key o) key ≡ option_map (λ (n : NodeData). doc_of n.meta (shown_value n.value)) o
+shown-get : (key : List ℕ) (o : Option NodeData) → get (shown_docs key o) key ≡ option_map (λ (n : NodeData). doc_from n.meta (shown_value n.value)) o
 shown-get key None = get-empty (slice_cmp nat_cmp) key
 shown-get key (Some node) =
-    let doc : Doc = doc_of node.meta (shown_value node.value) in
+    let doc : Doc = doc_from node.meta (shown_value node.value) in
     get-insert nat_list_cmp_total empty key doc key
     ∙ ap (λ b. cond b (Some doc) (get {R = slice_cmp nat_cmp} empty key)) ((eq_by_cmp_equiv nat_list_cmp_total).refl key)
 
 -- its CAS, where it is live
-shown-cas : (now : ℕ) (o : Option NodeData) → cas_of (live_of (option_map (λ (n : NodeData). doc_of n.meta (shown_value n.value)) o) now) ≡ live_cas o now
+shown-cas : (now : ℕ) (o : Option NodeData) → cas_of (live_of (option_map (λ (n : NodeData). doc_from n.meta (shown_value n.value)) o) now) ≡ live_cas o now
 shown-cas now None = refl
 shown-cas now (Some node) =
-    let doc : Doc = doc_of node.meta (shown_value node.value) in
+    let doc : Doc = doc_from node.meta (shown_value node.value) in
     elim (is_live doc now) as (λ b. cas_of (cond b (Some doc) None) ≡ cond b (Some node.meta.cas) None) [ true ↦ refl | false ↦ refl ]
 
 -- two refusals are one
@@ -81,13 +81,13 @@ write-refused x q fit prior key value flags expiration cas now r status opened r
     ∙ ap (λ (o : Option ℕ). written x q prior (unless o (stored x q fit key value flags expiration now))) (sym r-is ∙ is)
 
 -- stored, with these numbers
-pub write-stored : (x : StripeData) (q : QueueData) (fit : ℕ) (prior : Option Ticket) (key value : List ℕ) (flags expiration cas now : ℕ) (r : Option ℕ) (meta : Meta) (maxcas high : ℕ) → x.opened ≡ true → r ≡ write_refusal x q fit key (length value) cas now → r ≡ None → maxcas ≡ q.maxcas → high ≡ q.high → meta.flags ≡ flags → meta.expiry ≡ stored_expiry expiration now → meta.cas ≡ stamp (record (empty_world 0 0) { maxcas = maxcas }) now → meta.seqno ≡ high + 1 → meta.deleted ≡ false → write_step x q fit prior key value flags expiration cas now ≡ record { step = Done (record { status = SUCCESS; cas = meta.cas; flags = 0; uuid = 0; seqno = meta.seqno }); stripe = stripe_after (record x { places = released x.places prior }) (Puts key (doc_of meta value)); queue = queue_after q (Puts key (doc_of meta value)) }
+pub write-stored : (x : StripeData) (q : QueueData) (fit : ℕ) (prior : Option Ticket) (key value : List ℕ) (flags expiration cas now : ℕ) (r : Option ℕ) (meta : Meta) (maxcas high : ℕ) → x.opened ≡ true → r ≡ write_refusal x q fit key (length value) cas now → r ≡ None → maxcas ≡ q.maxcas → high ≡ q.high → meta.flags ≡ flags → meta.expiry ≡ stored_expiry expiration now → meta.cas ≡ stamp (record (empty_world 0 0) { maxcas = maxcas }) now → meta.seqno ≡ high + 1 → meta.deleted ≡ false → write_step x q fit prior key value flags expiration cas now ≡ record { step = Done (record { status = success; cas = meta.cas; flags = 0; uuid = 0; seqno = meta.seqno }); stripe = stripe_after (record x { places = released x.places prior }) (Puts key (doc_from meta value)); queue = queue_after q (Puts key (doc_from meta value)) }
 write-stored x q fit prior key value flags expiration cas now r meta maxcas high opened r-is is maxcas-is high-is flags-is expiry-is cas-is seqno-is deleted-is =
     let w : World = shown_world x q 0 fit key in
-    let doc : doc_of meta value ≡ next_doc w value flags (stored_expiry expiration now) false now =
-    ap (λ (n : ℕ). record (doc_of meta value) { flags = n }) flags-is
-    ∙ ap (λ (n : ℕ). record (doc_of meta value) { flags = flags; expiry = n }) expiry-is
-    ∙ ap (λ (n : ℕ). record (doc_of meta value) { flags = flags; expiry = stored_expiry expiration now; cas = n }) (cas-is ∙ ap (λ (n : ℕ). stamp (record (empty_world 0 0) { maxcas = n }) now) maxcas-is)
+    let doc : doc_from meta value ≡ next_doc w value flags (stored_expiry expiration now) false now =
+    ap (λ (n : ℕ). record (doc_from meta value) { flags = n }) flags-is
+    ∙ ap (λ (n : ℕ). record (doc_from meta value) { flags = flags; expiry = n }) expiry-is
+    ∙ ap (λ (n : ℕ). record (doc_from meta value) { flags = flags; expiry = stored_expiry expiration now; cas = n }) (cas-is ∙ ap (λ (n : ℕ). stamp (record (empty_world 0 0) { maxcas = n }) now) maxcas-is)
     ∙ ap (λ (n : ℕ). record (next_doc w value flags (stored_expiry expiration now) meta.deleted now) { seqno = n }) (seqno-is ∙ ap (λ (n : ℕ). n + 1) high-is)
     ∙ ap (λ (b : Bool). next_doc w value flags (stored_expiry expiration now) b now) deleted-is
     in

@@ -5,7 +5,7 @@ use Rattle.std.specs.List.{position_from}
 use Rattle.std.specs.Str.{bytes_eq}
 use Rattle.std.specs.declared.alloc.Global.{Global}
 use Rattle.ep_model.specs.declared.call.VbState.{VbState}
-use Rattle.ep_model.specs.World.{Doc}
+use Rattle.ep_model.specs.World.{Doc, doc_from}
 use Rattle.flat_parts.specs.declared.data.NodeData.{NodeData}
 use Rattle.flat_parts.specs.declared.data.PlaceData.{PlaceData}
 use Rattle.flat_parts.specs.declared.data.StripeData.{StripeData}
@@ -15,7 +15,6 @@ use Rattle.flat_parts.specs.declared.node.Found.{Found}
 use Rattle.flat_parts.specs.declared.node.Found.TheVariants.{Nothing, Ejected, Resident}
 use Rattle.flat_parts.specs.declared.place.Place.{Place}
 use Rattle.flat_parts.specs.declared.queue.Item.{Item}
-use Rattle.flat_parts.specs.Nodes.{doc_of}
 
 abbrev pub node_data : Node → NodeData
 node_data node = record { key = node.key.items; meta = node.meta; value = option_map (λ (v : Vec ℕ Global). v.items) node.value }
@@ -24,7 +23,7 @@ abbrev pub place_data : Place → PlaceData
 place_data place = record { number = place.number; key = place.key.items; outcome = place.outcome }
 
 abbrev pub item_data : Item → List ℕ × Doc
-item_data item = (item.key.items, doc_of item.document.meta item.document.value.items)
+item_data item = (item.key.items, doc_from item.document.meta item.document.value.items)
 
 abbrev pub nodes_data : List Node → List NodeData
 nodes_data nodes = map node_data nodes

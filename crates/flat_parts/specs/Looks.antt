@@ -1,14 +1,14 @@
 -- What a Get comes to without the store: an answer, a refusal, or that it has to ask.
 use Rattle.std.specs.Prelude.{ℕ, true, if◌then◌else◌, List, [], Option, Some, None}
 use Rattle.ep_model.specs.declared.event.Cause.TheVariants as causes
-use Rattle.ep_model.specs.World.{live_of}
+use Rattle.ep_model.specs.World.{live_of, doc_from}
 use Rattle.ep_model.specs.Refusals.{state_refusal}
 use Rattle.ep_model.specs.Answer.{Answer, refused, answer_get}
 use Rattle.flat_parts.specs.declared.data.NodeData.{NodeData}
 use Rattle.flat_parts.specs.declared.data.StripeData.{StripeData}
 use Rattle.flat_parts.specs.declared.data.Step.{Step}
 use Rattle.flat_parts.specs.declared.data.Step.TheVariants.{Done, Refused}
-use Rattle.flat_parts.specs.Nodes.{doc_of, node_at}
+use Rattle.flat_parts.specs.Nodes.{node_at}
 
 -- a step and the value that it shows
 abbrev pub Look : Type 0
@@ -19,7 +19,7 @@ answered a = Some (Done a.reply, a.value)
 
 abbrev pub look_value : ℕ → NodeData → Option (List ℕ) → Option Look
 look_value now node None = None
-look_value now node (Some value) = answered (answer_get (live_of (Some (doc_of node.meta value)) now))
+look_value now node (Some value) = answered (answer_get (live_of (Some (doc_from node.meta value)) now))
 
 abbrev pub look_node : ℕ → Option NodeData → Option Look
 look_node now None = answered (answer_get None)

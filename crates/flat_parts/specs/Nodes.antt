@@ -1,20 +1,12 @@
 -- What a flat stripe holds, as lists: nodes by their keys, and places by the numbers of their tickets.
 use Rattle.std.specs.Prelude.{ℕ, ◌+◌, Bool, true, false, not, ◌==◌, ◌&&◌, nat_le, if◌then◌else◌, List, [], ◌∷◌, length, map, filter, Option, Some, None}
 use Rattle.std.specs.Str.{bytes_eq}
-use Rattle.ep_model.specs.declared.call.Meta.{Meta}
 use Rattle.ep_model.specs.declared.event.Ticket.{Ticket}
-use Rattle.ep_model.specs.World.{Doc, blocks}
+use Rattle.ep_model.specs.World.{Doc, meta_of, blocks}
 use Rattle.flat_parts.specs.declared.data.NodeData.{NodeData}
 use Rattle.flat_parts.specs.declared.data.Outcome.{Outcome}
 use Rattle.flat_parts.specs.declared.data.Outcome.TheVariants.{Waiting, Merged, Absent, Failed, NoMemory}
 use Rattle.flat_parts.specs.declared.data.PlaceData.{PlaceData}
-
--- a document without its value
-abbrev pub meta_of : Doc → Meta
-meta_of doc = record { flags = doc.flags; expiry = doc.expiry; cas = doc.cas; seqno = doc.seqno; deleted = doc.deleted; len = length doc.value }
-
-abbrev pub doc_of : Meta → List ℕ → Doc
-doc_of meta value = record { value = value; flags = meta.flags; expiry = meta.expiry; cas = meta.cas; seqno = meta.seqno; deleted = meta.deleted }
 
 -- a node of a document whose value is resident
 abbrev pub node_of : List ℕ → Doc → NodeData

@@ -6,7 +6,7 @@ use Rattle.ep_model.specs.declared.event.Cause.{Cause}
 use Rattle.ep_model.specs.declared.event.Cause.TheVariants as causes
 use Rattle.ep_model.specs.declared.event.Ticket.{Ticket}
 use Rattle.ep_model.specs.declared.data.CallData.TheVariants.{Store}
-use Rattle.ep_model.specs.World.{Doc, Docs, World, live_of}
+use Rattle.ep_model.specs.World.{Doc, Docs, World, empty_world, live_of, doc_from}
 use Rattle.ep_model.specs.Refusals.{state_refusal}
 use Rattle.ep_model.specs.Answer.{Effect, Nothing, Puts, Sets, Answer, refused, answer_get, answer}
 use Rattle.flat_parts.specs.declared.data.NodeData.{NodeData}
@@ -19,7 +19,7 @@ use Rattle.flat_parts.specs.declared.data.ReadData.{ReadData}
 use Rattle.flat_parts.specs.declared.data.WriteData.{WriteData}
 use Rattle.flat_parts.specs.declared.data.PageData.{PageData}
 use Rattle.flat_parts.specs.declared.data.Step.TheVariants.{Done, Refused, Fetch, FetchFull}
-use Rattle.flat_parts.specs.Nodes.{doc_of, node_of, node_at, put_node, ejected, is_ejectable, node_blocks, outcome_at, released, forgotten}
+use Rattle.flat_parts.specs.Nodes.{node_of, node_at, put_node, ejected, is_ejectable, node_blocks, outcome_at, released, forgotten}
 
 -- a Get that is answered, or refused for now; its place is released
 abbrev pub read_done : StripeData → Option Ticket → Answer → ReadData
@@ -58,7 +58,7 @@ read_waits x (Some ticket) key (Some NoMemory) = read_refused x (Some ticket) (c
 
 abbrev pub read_value : StripeData → Option Ticket → List ℕ → ℕ → NodeData → Option (List ℕ) → ReadData
 read_value x prior key now node None = read_waits x prior key (prior_outcome x prior)
-read_value x prior key now node (Some value) = read_done x prior (answer_get (live_of (Some (doc_of node.meta value)) now))
+read_value x prior key now node (Some value) = read_done x prior (answer_get (live_of (Some (doc_from node.meta value)) now))
 
 abbrev pub read_node : StripeData → Option Ticket → List ℕ → ℕ → Option NodeData → ReadData
 read_node x prior key now None = read_done x prior (answer_get None)
@@ -80,20 +80,17 @@ shown_value (Some value) = value
 
 abbrev pub shown_docs : List ℕ → Option NodeData → Docs
 shown_docs key None = finmap.empty
-shown_docs key (Some node) = finmap.insert finmap.empty key (doc_of node.meta (shown_value node.value))
+shown_docs key (Some node) = finmap.insert finmap.empty key (doc_from node.meta (shown_value node.value))
 
 -- the world as the stripe of a key and the queue show it to a call on the key
 abbrev pub shown_world : StripeData → QueueData → ℕ → ℕ → List ℕ → World
-shown_world x q id fit key = record {
-  id = id;
+shown_world x q id fit key = record (empty_world id fit) {
   docs = shown_docs key (node_at x.nodes key);
   high = q.high;
   maxcas = q.maxcas;
   state = x.state;
-  failovers = [];
   persisted = q.persisted;
   opened = x.opened;
-  fit = fit;
 }
 
 -- the parts after an effect

@@ -1,8 +1,7 @@
 // A node of a stripe.
 ghost use Rattle.std.specs.Prelude.{◌≡◌, ◌+◌, ◌≤◌, ◌++◌, true, length, Some};
-ghost use Rattle.ep_model.specs.World.{live_of};
+ghost use Rattle.ep_model.specs.World.{live_of, doc_from};
 ghost use Rattle.ep_model.specs.Answer.{answer_get};
-ghost use Rattle.flat_parts.specs.Nodes.{doc_of};
 ghost use Rattle.flat_parts.specs.Fits.{is_fitting};
 
 use ep_model::{Meta, NoMemory, Out, Reply, rules, status};
@@ -81,9 +80,9 @@ impl Node {
 /// Answers a Get of a document whose value is resident, and appends the value where the document is live.
 pub(crate) fn show(meta: Meta, value: &[u8], now: u64, out: &mut Out) -> Reply
     requires { length value.now ≤ out.old.spare }
-    ensures reply { result ≡ (answer_get (live_of (Some (doc_of meta value.now)) now)).reply }
+    ensures reply { result ≡ (answer_get (live_of (Some (doc_from meta value.now)) now)).reply }
     ensures value { out.new.bytes
-        ≡ out.old.bytes ++ (answer_get (live_of (Some (doc_of meta value.now)) now)).value }
+        ≡ out.old.bytes ++ (answer_get (live_of (Some (doc_from meta value.now)) now)).value }
     ensures room { out.new.spare + length out.new.bytes ≡ out.old.spare + length out.old.bytes }
 {
     if !rules::is_live(meta.deleted, meta.expiry, now) {

@@ -50,7 +50,7 @@ impl Model for FlatQueue {
 impl Item {
     ghost use Rattle.std.specs.Prelude.{◌≡◌, IfOk};
     ghost use Rattle.ep_model.specs.Limits.{IsKey, IsValue};
-    ghost use Rattle.flat_parts.specs.Nodes.{doc_of};
+    ghost use Rattle.ep_model.specs.World.{doc_from};
     ghost use Rattle.flat_parts.specs.Flat.{item_data};
 
     /// A mutation of these bytes. Its cost is linear in them, which it copies.
@@ -58,7 +58,7 @@ impl Item {
         requires key { IsKey key.now }
         requires value { IsValue value.now }
         requires len { meta.len ≡ length value.now }
-        ensures { IfOk result (λ item. item_data item ≡ (key.now, doc_of meta value.now)) }
+        ensures { IfOk result (λ item. item_data item ≡ (key.now, doc_from meta value.now)) }
     {
         let key = key.to_vec(alloc)?;
         let value = value.to_vec(alloc)?;
@@ -69,7 +69,7 @@ impl Item {
 
 impl FlatQueue {
     ghost use Rattle.std.specs.Prelude.{◌≡◌, ◌<◌, [], true, false, length, Some, slice_get};
-    ghost use Rattle.hold_stage.specs.Mutations.{above};
+    ghost use Rattle.ep_model.specs.Mutations.{above};
     ghost use Rattle.ep_model.specs.Limits.{IsKey, IsValue};
     ghost use Rattle.ep_model.specs.Plain.{IsSound};
     ghost use Rattle.flat_parts.specs.Flat.{item_data};

@@ -1,10 +1,10 @@
 // A stripe: what memory has of the documents of some keys, in a list.
 ghost use Rattle.std.specs.Prelude.{◌≡◌, ◌+◌, ◌-◌, ◌^◌, ◌≤◌, ◌++◌, [], true, false, min, length, Some, IfOk, OnOk, OnErr};
 ghost use Rattle.std.specs.Option.{option_map, option_copied};
-ghost use Rattle.ep_model.specs.Limits.{IsKey};
-ghost use Rattle.ep_model.specs.declared.limits.TheConstants.{MAX_VALUE};
+ghost use Rattle.ep_model.specs.Limits.{IsKey, max_value};
 ghost use Rattle.flat_parts.specs.declared.data.NodeData.{NodeData};
-ghost use Rattle.flat_parts.specs.Nodes.{doc_of, node_at, outcome_at, first_waiting, released, settled};
+ghost use Rattle.ep_model.specs.World.{doc_from};
+ghost use Rattle.flat_parts.specs.Nodes.{node_at, outcome_at, first_waiting, released, settled};
 ghost use Rattle.flat_parts.specs.Steps.{is_full, prior_outcome, read_asks, read_waits, read_step, page_step, restored};
 ghost use Rattle.flat_parts.specs.Flat.{found_of, node_data, place_data};
 ghost use Rattle.flat_parts.specs.Looks.{Look, look, look_shows};
@@ -186,7 +186,7 @@ impl FlatStripe {
 
     /// What a Get comes to without the store, and appends the value that it shows. Nothing where it has to ask.
     fn look(&self, key: &[u8], now: u64, value: &mut Out) -> Option<Step>
-        requires { MAX_VALUE ≤ value.old.spare }
+        requires { max_value ≤ value.old.spare }
         ensures step { result ≡ option_map (λ (l : Look). l.0) (look self.now key.now now) }
         ensures value { value.new.bytes ≡ value.old.bytes ++ look_shows (look self.now key.now now) }
         ensures room { value.new.spare + length value.new.bytes
@@ -288,7 +288,7 @@ impl FlatStripe {
         value: &mut Out,
     ) -> Result<Step, NoMemory>
         requires key { IsKey key.now }
-        requires spare { MAX_VALUE ≤ value.old.spare }
+        requires spare { max_value ≤ value.old.spare }
         ensures step { IfOk result (λ step. step ≡ (read_step self.old prior key.now now).step) }
         ensures stripe { OnOk result (self.new ≡ (read_step self.old prior key.now now).stripe) }
         ensures value { OnOk result (value.new.bytes
@@ -315,8 +315,8 @@ impl FlatStripe {
         requires node { (node : NodeData)
             × (node_at self.old.nodes key.now ≡ Some node) × (node.meta ≡ meta) }
         requires len { meta.len ≡ length value.items }
-        requires fits { length value.items ≤ MAX_VALUE }
-        ensures { self.new ≡ restored self.old key.now (doc_of meta value.items) }
+        requires fits { length value.items ≤ max_value }
+        ensures { self.new ≡ restored self.old key.now (doc_from meta value.items) }
     {
         nodes::restore(&mut self.nodes, key, meta, value);
     }

@@ -3,7 +3,8 @@ ghost use Rattle.std.specs.Prelude.{◌≡◌, ◌+◌, ◌<◌, ◌^◌, length
 ghost use Rattle.ep_model.specs.Limits.{IsKey, IsValue};
 ghost use Rattle.ep_model.specs.Plain.{IsSound};
 ghost use Rattle.ep_model.specs.Answer.{Puts};
-ghost use Rattle.flat_parts.specs.Nodes.{doc_of, released};
+ghost use Rattle.ep_model.specs.World.{doc_from};
+ghost use Rattle.flat_parts.specs.Nodes.{released};
 ghost use Rattle.flat_parts.specs.Steps.{stripe_after, queue_after, write_step};
 ghost use Rattle.flat_parts.specs.Writes.{write_refusal};
 
@@ -110,8 +111,8 @@ fn put(
     requires sound { IsSound meta.seqno meta.cas }
     ensures stripe { OnOk result (stripe.new ≡ stripe_after
         (record stripe.old { places = released stripe.old.places prior })
-        (Puts key.now (doc_of meta value.now))) }
-    ensures queue { OnOk result (queue.new ≡ queue_after queue.old (Puts key.now (doc_of meta value.now))) }
+        (Puts key.now (doc_from meta value.now))) }
+    ensures queue { OnOk result (queue.new ≡ queue_after queue.old (Puts key.now (doc_from meta value.now))) }
     ensures err { OnErr result ((stripe.new ≡ stripe.old) × (queue.new ≡ queue.old)) }
 {
     let node = Node::copied(alloc, key, meta, value)?;

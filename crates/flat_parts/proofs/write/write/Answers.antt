@@ -1,9 +1,10 @@
 use Rattle.std.proofs.Common.{◌≡◌, ◌+◌, false, ap, ◌∙◌, sym, refl}
 use Rattle.ep_model.specs.declared.call.Meta.{Meta}
-use Rattle.ep_model.specs.declared.status.TheConstants.{SUCCESS}
+use Rattle.ep_model.specs.Statuses.{success}
 use Rattle.flat_parts.specs.declared.data.Step.TheVariants.{Done}
 use Rattle.flat_parts.specs.declared.data.WriteData.{WriteData}
-use Rattle.flat_parts.specs.Nodes.{doc_of, released}
+use Rattle.ep_model.specs.World.{doc_from}
+use Rattle.flat_parts.specs.Nodes.{released}
 use Rattle.flat_parts.specs.Steps.{write_step, stripe_after, queue_after}
 use Rattle.ep_model.specs.Answer.{Puts, refused}
 use Rattle.flat_parts.proofs.WriteLemmas.{err_here, write-refused, write-stored}
@@ -27,13 +28,13 @@ pub returns-in-Some-clause-queue : goal.returns-in-Some-clause-queue
 returns-in-Some-clause-queue c = sym (ap (λ (w : WriteData). w.queue) (is-refused c))
 
 -- the numbers of a document that was stored
-abbrev meta_of : goal.In_ok-put → Meta
-meta_of c = record { flags = c.args.flags; expiry = c.stored_expiry.result; cas = c.stamp.result; seqno = c.high.result + 1; deleted = false; len = 0 }
+abbrev put_meta : goal.In_ok-put → Meta
+put_meta c = record { flags = c.args.flags; expiry = c.stored_expiry.result; cas = c.stamp.result; seqno = c.high.result + 1; deleted = false; len = 0 }
 
 -- a Set that stored it
-is-stored : (c : goal.In_ok-put) → write_step c.args.stripe.now c.args.queue.now c.args.fit c.args.prior c.args.key.now c.args.value.now c.args.flags c.args.expiration c.args.cas c.args.now ≡ record { step = Done (record { status = SUCCESS; cas = c.stamp.result; flags = 0; uuid = 0; seqno = c.high.result + 1 }); stripe = stripe_after (record c.args.stripe.now { places = released c.args.stripe.now.places c.args.prior }) (Puts c.args.key.now (doc_of (meta_of c) c.args.value.now)); queue = queue_after c.args.queue.now (Puts c.args.key.now (doc_of (meta_of c) c.args.value.now)) }
+is-stored : (c : goal.In_ok-put) → write_step c.args.stripe.now c.args.queue.now c.args.fit c.args.prior c.args.key.now c.args.value.now c.args.flags c.args.expiration c.args.cas c.args.now ≡ record { step = Done (record { status = success; cas = c.stamp.result; flags = 0; uuid = 0; seqno = c.high.result + 1 }); stripe = stripe_after (record c.args.stripe.now { places = released c.args.stripe.now.places c.args.prior }) (Puts c.args.key.now (doc_from (put_meta c) c.args.value.now)); queue = queue_after c.args.queue.now (Puts c.args.key.now (doc_from (put_meta c) c.args.value.now)) }
 is-stored c =
-    write-stored c.args.stripe.now c.args.queue.now c.args.fit c.args.prior c.args.key.now c.args.value.now c.args.flags c.args.expiration c.args.cas c.args.now c.refusal.result (meta_of c) c.maxcas.result c.high.result
+    write-stored c.args.stripe.now c.args.queue.now c.args.fit c.args.prior c.args.key.now c.args.value.now c.args.flags c.args.expiration c.args.cas c.args.now c.refusal.result (put_meta c) c.maxcas.result c.high.result
     (sym c.is_opened.ensures ∙ c.if-not-is_opened.false) c.refusal.ensures c.in_default.is c.maxcas.ensures.maxcas c.high.ensures.high refl c.stored_expiry.ensures c.stamp.ensures refl refl
 
 pub returns-clause-step : goal.returns-clause-step
