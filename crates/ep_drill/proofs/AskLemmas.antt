@@ -18,13 +18,13 @@ use Rattle.ep_model.specs.declared.data.CallData.TheVariants as calls
 use Rattle.ep_model.specs.declared.data.EventData.{EventData}
 use Rattle.ep_model.specs.declared.data.EventData.TheVariants as events
 use Rattle.ep_model.specs.declared.data.FrontData.{FrontData}
-use Rattle.ep_model.specs.World.{Doc, World, live, live_of, secs}
+use Rattle.ep_model.specs.World.{Doc, World, live, live_of, secs, doc_from}
 use Rattle.ep_model.specs.Stripes.{stripe_of}
 use Rattle.ep_model.specs.Refusals.{state_refusal}
 use Rattle.ep_model.specs.Answer.{Answer, unless, refused, answer_get, answer_row, answer}
 use Rattle.ep_model.specs.Front.{world_of, with_event, marked}
 use Rattle.ep_model.specs.Legal.{IsUnused, IsBelow, WaitsAt, Caused, IsAway, MayAsk, May, AreLegal, IsLegal}
-use Rattle.hold_stage.specs.Mutations.{is_ask}
+use Rattle.hold_stage.specs.Waits.{is_ask}
 use Rattle.hold_stage.proofs.Callers.{same_is}
 use Rattle.hold_stage.proofs.Views.{or_true_left}
 use Rattle.hold_stage.proofs.Later.{world_step, all_append}
@@ -36,7 +36,7 @@ use Rattle.flat_parts.specs.declared.data.Outcome.TheVariants as outcomes
 use Rattle.flat_parts.specs.declared.data.PlaceData.{PlaceData}
 use Rattle.flat_parts.specs.declared.data.StripeData.{StripeData}
 use Rattle.flat_parts.specs.declared.data.Step.TheVariants as steps
-use Rattle.flat_parts.specs.Nodes.{doc_of, node_at, outcome_at, is_not_numbered, released}
+use Rattle.flat_parts.specs.Nodes.{node_at, outcome_at, is_not_numbered, released}
 use Rattle.flat_parts.specs.Steps.{read_refused, is_full, asked, read_asks, prior_outcome, read_waits, read_value, read_node, read_active, read_step}
 use Rattle.ep_drill.specs.Stands.{ValueStands, IsGone, IsNoRead, OutcomeStands, ticket_of, PlaceStands, StripeStands, PriorStands, PriorsStand}
 use Rattle.ep_drill.proofs.ReadLemmas.{AfterRead, all_filter, all_map, IsCalm, places_calm, stripe_calm, released_all, after_done, after_warming}
@@ -145,6 +145,7 @@ with_places f stripe x places stand closed s = record {
   places = stand;
   next = s.next;
   closed = closed;
+  is_told = s.is_told;
 }
 
 -- the new place of an ask stands
@@ -180,7 +181,7 @@ module _ (f : FrontData) (stripe caller now : ℕ) (key : List ℕ) (x : StripeD
         keyed = refl;
         here = sym here;
         above = s.next;
-        away = away_of f.config.eviction (marked f stripe) (get (world_of f).docs key) n.doc value-eviction n.found v.0 v.1;
+        away = λ _. away_of f.config.eviction (marked f stripe) (get (world_of f).docs key) n.doc value-eviction n.found v.0 v.1;
       }
 
   -- a Get asks at a new place, beside places that stand
@@ -251,10 +252,10 @@ module _ (f : FrontData) (stripe caller now : ℕ) (key : List ℕ) (x : StripeD
   after_waits (Some ticket) node (Some outcomes.Absent) is priors found away = after_asks (Some ticket) (released x.places (Some ticket)) node (released_all (PlaceStands f stripe) x.places (Some ticket) s.places) priors found away
   after_waits (Some ticket) node (Some (outcomes.Failed fault)) is priors found away =
       let w = waits_of ticket (outcomes.Failed fault) is priors in
-      after_refused ticket (causes.Store ticket) (record { serving = record { opened = opened; active = active }; waits = w.0; fault = fault; failed = w.1.1 }) (store_calm stripe caller now (calls.Get key) ticket)
+      after_refused ticket (causes.Store ticket) (record { serving = record { opened = opened; active = active }; keyed = refl; waits = w.0; fault = fault; failed = w.1.1 }) (store_calm stripe caller now (calls.Get key) ticket)
   after_waits (Some ticket) node (Some outcomes.NoMemory) is priors found away =
       let w = waits_of ticket outcomes.NoMemory is priors in
-      after_refused ticket (causes.Memory ticket) (record { serving = record { opened = opened; active = active }; waits = w.0 }) (memory_calm stripe caller now (calls.Get key) ticket)
+      after_refused ticket (causes.Memory ticket) (record { serving = record { opened = opened; active = active }; keyed = refl; waits = w.0 }) (memory_calm stripe caller now (calls.Get key) ticket)
 
 -- in an active vBucket a Get shows the live document
 get_active : (w : World) (key : List ℕ) (now : ℕ) → w.state ≡ Active → answer w (calls.Get key) now ≡ answer_get (live w key now)
@@ -273,10 +274,10 @@ module _ (f : FrontData) (stripe caller now : ℕ) (key : List ℕ) (prior : Opt
   after_value node (Some value) opened active found is =
       let n = s.nodes key node found in
       let v : value ≡ n.doc.value = subst (λ (o : Option (List ℕ)). ValueStands (marked f stripe) n.doc o) is n.value in
-      let doc : doc_of node.meta value ≡ n.doc = ap (λ m. doc_of m value) n.meta ∙ ap (λ l. record n.doc { value = l }) v in
-      let shown : answer_get (live_of (Some (doc_of node.meta value)) now) ≡ answer (world_of f) (calls.Get key) now =
+      let doc : doc_from node.meta value ≡ n.doc = ap (λ m. doc_from m value) n.meta ∙ ap (λ l. record n.doc { value = l }) v in
+      let shown : answer_get (live_of (Some (doc_from node.meta value)) now) ≡ answer (world_of f) (calls.Get key) now =
       ap (λ (d : Doc). answer_get (live_of (Some d) now)) doc ∙ ap (λ (o : Option Doc). answer_get (live_of o now)) (sym n.found) ∙ sym (get_active (world_of f) key now active) in
-      after_done f stripe caller now key prior x s (answer_get (live_of (Some (doc_of node.meta value)) now)) opened (ap (λ (a : Answer). a.reply) shown) (ap (λ (a : Answer). a.value) shown)
+      after_done f stripe caller now key prior x s (answer_get (live_of (Some (doc_from node.meta value)) now)) opened (ap (λ (a : Answer). a.reply) shown) (ap (λ (a : Answer). a.value) shown)
 
   after_node : (node : Option NodeData) → (world_of f).opened ≡ true → (world_of f).state ≡ Active → node_at x.nodes key ≡ node → AfterRead f stripe caller (calls.Get key) now prior (read_node x prior key now node)
   after_node None opened active found =

@@ -1,6 +1,6 @@
 -- What a vBucket's desk, batch and reads are to its history, after each thing that a core does with them.
-use Rattle.std.proofs.Common.{◌≡◌, ◌≢◌, ◌<◌, ◌≤◌, ℕ, zero, suc, true, false, ◌⊎◌, inl, inr, List, [], ◌∷◌, length, slice_get, slice_set, refl, sym, ap, subst, ◌∙◌, arith}
-use Rattle.std.specs.Prelude.{Option, Some, None, IfSome}
+use Rattle.std.proofs.Common.{◌≡◌, ◌≢◌, ◌<◌, ◌≤◌, ◌+◌, ℕ, zero, suc, true, false, ◌⊎◌, inl, inr, List, [], ◌∷◌, length, slice_get, slice_set, refl, sym, ap, subst, ◌∙◌, arith}
+use Rattle.std.specs.Prelude.{Option, Some, None, IsSome, IfSome}
 use Rattle.std.proofs.lemmas.List.{length-set}
 use Rattle.ep_model.specs.declared.config.Config.{Config}
 use Rattle.ep_model.specs.declared.event.Ticket.{Ticket}
@@ -8,16 +8,17 @@ use Rattle.ep_model.specs.declared.data.EventData.{EventData}
 use Rattle.ep_model.specs.declared.data.EventData.TheVariants as events
 use Rattle.ep_model.specs.declared.data.FrontData.{FrontData}
 use Rattle.ep_model.specs.declared.data.StartData.{StartData}
+use Rattle.ep_model.specs.History.{step}
 use Rattle.ep_model.specs.Front.{empty_start, started, world_of, with_event}
-use Rattle.ep_model.specs.Legal.{May, AreLegal, IsLegal}
-use Rattle.ep_model.proofs.HistoryLemmas.{legal-front}
+use Rattle.ep_model.specs.Legal.{IsLegal}
 use Rattle.hold_stage.specs.Touches.{is_desks}
-use Rattle.hold_stage.proofs.Bounds.{legal_bounds}
 use Rattle.kv_keeper.specs.declared.data.BatchData.{BatchData}
 use Rattle.kv_keeper.specs.declared.data.DeskData.{DeskData}
-use Rattle.kv_keeper.specs.Content.{Content}
-use Rattle.kv_keeper.specs.Desk.{new_desk}
-use Rattle.kv_keeper.specs.Memory.{MemoryData, empty_memory}
+use Rattle.kv_keeper.specs.Content.{Content, KeeperData, empty_content}
+use Rattle.kv_keeper.specs.declared.keeper.StoreState.{StoreState}
+use Rattle.kv_keeper.specs.Desk.{HasFailedRead, new_desk, with_keeper_faults}
+use Rattle.kv_keeper.specs.Kept.{IsDoubtful, all_committed}
+use Rattle.hold_stage.proofs.RisesLemmas.{opened_stays, may_of, started_low}
 use Rattle.ep_drill.specs.declared.data.BenchData.{BenchData}
 use Rattle.ep_drill.specs.declared.part.Part.{Part}
 use Rattle.ep_drill.specs.declared.fetch.Merging.{Merging}
@@ -27,24 +28,13 @@ use Rattle.ep_drill.specs.declared.store.Flushed.TheVariants as flushes
 use Rattle.ep_drill.specs.declared.data.FetchedData.{FetchedData}
 use Rattle.ep_drill.specs.declared.data.FoundData.{FoundData}
 use Rattle.ep_drill.specs.declared.data.FoundData.TheVariants as founds
-use Rattle.ep_drill.specs.Calls.{noted}
-use Rattle.ep_drill.specs.Answers.{DeskKnown, IsFlushed}
-use Rattle.ep_drill.specs.Fetches.{IsCounted, DeskRead, IsMerged}
-use Rattle.ep_drill.specs.Stands.{ContentStands, DeskStands, BatchStands, FetchedStands}
+use Rattle.hold_stage.specs.Went.{noted}
+use Rattle.hold_stage.proofs.DeskLemmas.{persisted_same}
+use Rattle.ep_drill.specs.Answers.{IsFlushed, state_for, whole}
+use Rattle.ep_drill.specs.Fetches.{Reads, IsMerged}
+use Rattle.ep_drill.specs.Stands.{HoldsIfTold, DeskStands, BatchStands, FetchedStands}
 use Rattle.ep_drill.specs.Core.{BenchStands}
-use Rattle.ep_drill.proofs.StoreLemmas.{desk_keeps_standing, more_faults, desk_tells, opened_stays, batch_keeps, no_fault_same, IsApart, fetched_keeps}
-
--- the last event of a legal history may happen where it stands, and the history before it is legal
-pub may_of : (f : FrontData) (event : EventData) → IsLegal (with_event f event) → May f event
-unfolding AreLegal
-may_of f event legal = (legal-front f (event ∷ []) legal).1.0
-
-pub legal_before : (f : FrontData) (event : EventData) → IsLegal (with_event f event) → IsLegal f
-legal_before f event legal = (legal-front f (event ∷ []) legal).0
-
--- all that a history starts with is stored
-pub started_low : (f : FrontData) → IsLegal f → (started f.start).high ≤ (world_of f).persisted
-started_low f legal = (legal_bounds f legal).start
+use Rattle.ep_drill.proofs.StoreLemmas.{desk_keeps_standing, more_faults, desk_tells, batch_keeps, no_fault_same, IsApart, fetched_keeps}
 
 -- an event that isn't the desk's tells of no failed read
 apart_same : (found : FoundData) (event : EventData) → is_desks event ≡ false → IsApart found event
@@ -54,18 +44,19 @@ apart_same (founds.Failed fault) event test = no_fault_same fault event test
 apart_same founds.NoMemory event test = tt
 
 -- a batch that may be missing stands on behind an event
-batch_later : (f : FrontData) (event : EventData) (stored : ℕ) (batch : Option BatchData) → (started f.start).high ≤ stored → IfSome batch (λ b. BatchStands f stored b) → IfSome batch (λ b. BatchStands (with_event f event) stored b)
-batch_later f event stored None start b = tt
-batch_later f event stored (Some batch) start b = batch_keeps f event stored batch start b
+batch_later : (f : FrontData) (event : EventData) (stored : ℕ) (batch : Option BatchData) → (started f.start).high ≤ stored → (step (world_of f) event).persisted ≡ (world_of f).persisted → IfSome batch (λ b. BatchStands f stored b) → IfSome batch (λ b. BatchStands (with_event f event) stored b)
+batch_later f event stored None start same b = tt
+batch_later f event stored (Some batch) start same b = batch_keeps f event stored batch start same b
 
 -- A desk and a batch change, and each read that is there stands on, where the count of failed reads doesn't fall.
-with_desk : (f g : FrontData) (bench : BenchData) (now : DeskData MemoryData) (batch : Option BatchData) → BenchStands f bench
-    → g.config.stripes ≡ f.config.stripes → (world_of g).opened ≡ true → DeskStands g now.keeper.content now.stored now.doubt now.noted now.read_faults → now.stored ≡ now.noted
+with_desk : (f g : FrontData) (bench : BenchData) (now : DeskData) (batch : Option BatchData) → BenchStands f bench
+    → g.config.stripes ≡ f.config.stripes → (world_of g).opened ≡ true → DeskStands g now → IsSome now.keeper.content → now.stored ≡ now.noted
     → IfSome batch (λ b. BatchStands g now.stored b) → IfSome batch (λ _. now.doubt ≡ None) → ((r : FetchedData) → FetchedStands f r → FetchedStands g r) → bench.desk.read_faults ≤ now.read_faults
     → BenchStands g (record { desk = now; batch = batch; reads = bench.reads })
-with_desk f g bench now batch b config opened desk known stands sure keeps more = record {
+with_desk f g bench now batch b config opened desk tells known stands sure keeps more = record {
   opened = opened;
   desk = desk;
+  tells = tells;
   known = known;
   batch = stands;
   sure = sure;
@@ -83,22 +74,27 @@ bench_noted f (Some event) bench legal then test b =
     let low = b.desk.low in
     let may = may_of f event then in
     with_desk f (with_event f event) bench bench.desk bench.batch b refl (opened_stays f event b.opened)
-    (desk_keeps_standing f event bench.desk.keeper.content bench.desk.stored bench.desk.doubt bench.desk.noted bench.desk.read_faults legal test b.desk) b.known
-    (batch_later f event bench.desk.stored bench.batch (omega arith) b.batch) b.sure (λ r s. fetched_keeps f event r may (apart_same r.found event test) s) (omega arith)
+    (desk_keeps_standing f event bench.desk legal test b.desk) b.tells b.known
+    (batch_later f event bench.desk.stored bench.batch (omega arith) (persisted_same (world_of f) event test) b.batch) b.sure (λ r s. fetched_keeps f event r may (apart_same r.found event test) s) (omega arith)
 
 -- a batch is taken, where no commit failed
 pub bench_taken : (f : FrontData) (bench : BenchData) (batch : Option BatchData) → BenchStands f bench → bench.desk.doubt ≡ None → IfSome batch (λ b. BatchStands f bench.desk.stored b) → BenchStands f (record bench { batch = batch })
-bench_taken f bench batch b sure stands = with_desk f f bench bench.desk batch b refl b.opened b.desk b.known stands (at batch) (λ r s. s) (omega arith)
+bench_taken f bench batch b sure stands = with_desk f f bench bench.desk batch b refl b.opened b.desk b.tells b.known stands (at batch) (λ r s. s) (omega arith)
   where
     at : (batch : Option BatchData) → IfSome batch (λ _. bench.desk.doubt ≡ None)
     at None = tt
     at (Some x) = sure
 
--- what is known of a desk, at the content that its store has
-desk_known : (g : FrontData) (now : DeskData MemoryData) → DeskKnown g (Some now.keeper.content) now → DeskStands g now.keeper.content now.stored now.doubt now.noted now.read_faults
-desk_known g now k =
-    let same : k.0 ≡ now.keeper.content = cc in
-    subst (λ (c : Content). DeskStands g c now.stored now.doubt now.noted now.read_faults) same k.2
+-- a store that tells goes on telling through a commit
+tells_whole : (content : Option Content) (batch : BatchData) (state : StoreState) → IsSome content → IsSome (all_committed content batch state)
+tells_whole None batch state h = absurd (cc)
+tells_whole (Some content) batch state h = refl
+
+tells_on : (old now : KeeperData) (batch : BatchData) → IsSome old.content → IsDoubtful old (whole old batch) now → IsSome now.content
+tells_on old now batch h doubtful = elim doubtful.which [
+  | inl x ↦ subst (λ (o : Option Content). IsSome o) (sym x.0) h
+  | inr y ↦ subst (λ (o : Option Content). IsSome o) (sym y.0) (tells_whole old.content batch (state_for batch) h)
+]
 
 -- a read stands on behind an event that isn't about it
 fetched_moves : (f g : FrontData) (event : EventData) (r : FetchedData) → g ≡ with_event f event → IsLegal g → IsApart r.found event → FetchedStands f r → FetchedStands g r
@@ -114,48 +110,43 @@ apart_persisted founds.NoMemory number = tt
 opened_moves : (f g : FrontData) (event : EventData) → g ≡ with_event f event → (world_of f).opened ≡ true → (world_of g).opened ≡ true
 opened_moves f g event is h = ap (λ (x : FrontData). (world_of x).opened) is ∙ opened_stays f event h
 
--- A batch is committed, or that fails: it isn't there any more.
-pub bench_committed : (f g : FrontData) (bench : BenchData) (now : DeskData MemoryData) (batch : BatchData) (flushed : Flushed) → IsLegal f → IsLegal g → BenchStands f bench → BatchStands f bench.desk.stored batch
-    → bench.desk.doubt ≡ None → IsFlushed f g (Some now.keeper.content) bench.desk now batch flushed → BenchStands g (record { desk = now; batch = None; reads = bench.reads })
-bench_committed f g bench now batch (flushes.Stored number) legal then b stands sure is =
-    let e = is.6 in
-    with_desk f g bench now None b (ap (λ (h : FrontData). h.config.stripes) is.1) (opened_moves f g (events.Persisted batch.to) is.1 b.opened) (desk_known g now is.2) (is.4 ∙ sym is.5) tt tt
+-- A batch is committed, or that fails, or memory was wanting: it isn't there any more.
+pub bench_committed : (f g : FrontData) (bench : BenchData) (now : DeskData) (batch : BatchData) (flushed : Flushed) → IsLegal f → IsLegal g → BenchStands f bench
+    → IsFlushed f g bench.desk now batch flushed → BenchStands g (record { desk = now; batch = None; reads = bench.reads })
+bench_committed f g bench now batch (flushes.Stored number) legal then b is =
+    let e : now.read_faults ≡ bench.desk.read_faults = ap (λ (d : DeskData). d.read_faults) is.3 in
+    let stored : now.stored ≡ batch.to = ap (λ (d : DeskData). d.stored) is.3 in
+    let noted : now.noted ≡ batch.to = ap (λ (d : DeskData). d.noted) is.3 in
+    with_desk f g bench now None b (ap (λ (h : FrontData). h.config.stripes) is.1) (opened_moves f g (events.Persisted batch.to) is.1 b.opened) is.2
+    (subst (λ (d : DeskData). IsSome d.keeper.content) (sym is.3) (tells_whole bench.desk.keeper.content batch (state_for batch) b.tells)) (stored ∙ sym noted) tt tt
     (λ r s. fetched_moves f g (events.Persisted batch.to) r is.1 then (apart_persisted r.found batch.to) s) (omega arith)
-bench_committed f g bench now batch flushes.Failed legal then b stands sure is =
-    let e = is.5 in
-    with_desk f g bench now None b (ap (λ (h : FrontData). h.config.stripes) is.0) (ap (λ (h : FrontData). (world_of h).opened) is.0 ∙ b.opened) (desk_known g now is.1) (is.3 ∙ b.known ∙ sym is.4) tt tt
+bench_committed f g bench now batch flushes.Failed legal then b is =
+    let e : now.read_faults ≡ bench.desk.read_faults = ap (λ (d : DeskData). d.read_faults) is.2 in
+    let stored : now.stored ≡ bench.desk.stored = ap (λ (d : DeskData). d.stored) is.2 in
+    let noted : now.noted ≡ bench.desk.noted = ap (λ (d : DeskData). d.noted) is.2 in
+    with_desk f g bench now None b (ap (λ (h : FrontData). h.config.stripes) is.0) (ap (λ (h : FrontData). (world_of h).opened) is.0 ∙ b.opened) is.1
+    (tells_on bench.desk.keeper now.keeper batch b.tells is.3) (stored ∙ b.known ∙ sym noted) tt tt
     (λ r s. subst (λ (h : FrontData). FetchedStands h r) (sym is.0) s) (omega arith)
-bench_committed f g bench now batch flushes.NoMemory legal then b stands sure is =
-    let e = is.5 in
-    with_desk f g bench now None b (ap (λ (h : FrontData). h.config.stripes) is.0) (ap (λ (h : FrontData). (world_of h).opened) is.0 ∙ b.opened) (desk_known g now is.1) (is.3 ∙ b.known ∙ sym is.4) tt tt
-    (λ r s. subst (λ (h : FrontData). FetchedStands h r) (sym is.0) s) (omega arith)
+bench_committed f g bench now batch flushes.NoMemory legal then b is =
+    subst (λ (h : FrontData). BenchStands h (record { desk = now; batch = None; reads = bench.reads })) (sym is.0)
+    (subst (λ (d : DeskData). BenchStands f (record { desk = d; batch = None; reads = bench.reads })) (sym is.1)
+    (with_desk f f bench bench.desk None b refl b.opened b.desk b.tells b.known tt tt (λ r s. s) (omega arith)))
 
--- where memory was wanting the batch may be kept for another try
-pub bench_kept : (f g : FrontData) (bench : BenchData) (now : DeskData MemoryData) (batch : BatchData) → IsLegal f → IsLegal g → BenchStands f bench → BatchStands f bench.desk.stored batch
-    → bench.desk.doubt ≡ None → IsFlushed f g (Some now.keeper.content) bench.desk now batch flushes.NoMemory → BenchStands g (record { desk = now; batch = Some batch; reads = bench.reads })
-bench_kept f g bench now batch legal then b stands sure is =
-    let e = is.5 in
-    with_desk f g bench now (Some batch) b (ap (λ (h : FrontData). h.config.stripes) is.0) (ap (λ (h : FrontData). (world_of h).opened) is.0 ∙ b.opened) (desk_known g now is.1) (is.3 ∙ b.known ∙ sym is.4)
-    (subst (λ (h : FrontData). BatchStands h now.stored batch) (sym is.0) (subst (λ n. BatchStands f n batch) (sym is.3) stands)) is.2
-    (λ r s. subst (λ (h : FrontData). FetchedStands h r) (sym is.0) s) (omega arith)
+-- what a read leaves of the desk
+pub record IsAsked (old now : DeskData) : Type 0 where
+  pub left : now ≡ record (with_keeper_faults old now.keeper.faults) { read_faults = now.read_faults }
+  pub faults : old.read_faults ≤ now.read_faults
 
--- what a read leaves of the desk stands
-desk_read : (f : FrontData) (old now : DeskData MemoryData) → DeskRead old.keeper.content (Some now.keeper.content) old now → DeskStands f old.keeper.content old.stored old.doubt old.noted old.read_faults
-    → DeskStands f now.keeper.content now.stored now.doubt now.noted now.read_faults
-desk_read f old now read d =
-    let same : old.keeper.content ≡ now.keeper.content = (let t = read.told in cc) in
-    let m = more_faults f old.keeper.content old.stored old.doubt old.noted old.read_faults now.read_faults read.faults d in
-    let e = read.stored in let low = d.low in let top = d.top in
-    record {
-      low = omega arith;
-      top = omega arith;
-      holds =
-          subst (λ (c : Content). ContentStands f c now.stored now.doubt) same
-          (subst (λ n. ContentStands f old.keeper.content n now.doubt) (sym read.stored)
-          (subst (λ (o : Option ℕ). ContentStands f old.keeper.content old.stored o) (sym read.doubt) d.holds));
-      persisted = read.noted ∙ d.persisted;
-      told = m.told;
-    }
+asked_none : (old now : DeskData) → now ≡ old → IsAsked old now
+asked_none old now is = subst (λ (d : DeskData). IsAsked old d) (sym is) (record { left = refl; faults = omega arith })
+
+pub asked_by : (old now : DeskData) (found : FoundData) → Reads old now found → IsAsked old now
+asked_by old now (founds.Row doc) is = asked_none old now is
+asked_by old now founds.Absent is = asked_none old now is
+asked_by old now (founds.Failed fault) is =
+    let e : now.read_faults ≡ old.read_faults + 1 = ap (λ (d : DeskData). d.read_faults) is.1.left in
+    record { left = is.1.left ∙ ap (λ (k : ℕ). record (with_keeper_faults old now.keeper.faults) { read_faults = k }) (sym e); faults = omega arith }
+asked_by old now founds.NoMemory is = asked_none old now is
 
 batch_at : (f : FrontData) (old now : ℕ) (batch : Option BatchData) → now ≡ old → IfSome batch (λ b. BatchStands f old b) → IfSome batch (λ b. BatchStands f now b)
 batch_at f old now None is h = tt
@@ -165,12 +156,13 @@ sure_at : (old now : Option ℕ) (batch : Option BatchData) → now ≡ old → 
 sure_at old now None is h = tt
 sure_at old now (Some batch) is h = is ∙ h
 
--- the store was read, or was asked to be, and nothing came of it
-pub bench_asked : (f : FrontData) (bench : BenchData) (now : DeskData MemoryData) → BenchStands f bench → DeskRead bench.desk.keeper.content (Some now.keeper.content) bench.desk now
-    → BenchStands f (record { desk = now; batch = bench.batch; reads = bench.reads })
-bench_asked f bench now b read =
-    with_desk f f bench now bench.batch b refl b.opened (desk_read f bench.desk now read b.desk) (read.stored ∙ b.known ∙ sym read.noted)
-    (batch_at f bench.desk.stored now.stored bench.batch read.stored b.batch) (sure_at bench.desk.doubt now.doubt bench.batch read.doubt b.sure) (λ r s. s) read.faults
+-- the store was read
+bench_asked : (f : FrontData) (bench : BenchData) (now : DeskData) → BenchStands f bench → IsAsked bench.desk now → BenchStands f (record { desk = now; batch = bench.batch; reads = bench.reads })
+bench_asked f bench now b asked =
+    let after : DeskData = record (with_keeper_faults bench.desk now.keeper.faults) { read_faults = now.read_faults } in
+    let more = asked.faults in
+    subst (λ (d : DeskData). BenchStands f (record { desk = d; batch = bench.batch; reads = bench.reads })) (sym asked.left)
+    (with_desk f f bench after bench.batch b refl b.opened (more_faults f bench.desk now.keeper.faults now.read_faults more b.desk) b.tells b.known b.batch b.sure (λ r s. s) more)
 
 -- a read that stands behind another one's place was there before, or is the other
 replaced : (reads : List (Option FetchedData)) (stripe i : ℕ) (q r : FetchedData) → slice_get (slice_set reads stripe (Some q)) i ≡ Some (Some r) → ((i ≡ stripe) × (r ≡ q)) ⊎ (slice_get reads i ≡ Some (Some r))
@@ -189,21 +181,24 @@ left_over (x ∷ reads) (suc stripe) zero r is = ((λ e. absurd (omega arith)), 
 left_over (x ∷ reads) (suc stripe) (suc i) r is = let h = left_over reads stripe i r is in ((λ e. h.0 (let same : i ≡ stripe = omega arith in same)), h.1)
 
 -- a failed read that was just made has a number above the old count, and the new count is as high
-counted : (before now fault : ℕ) (found : FoundData) → IsCounted before now found → found ≡ founds.Failed fault → (before < fault) × (fault ≤ now)
-counted before now fault found is failed =
-    let c = subst (λ (o : FoundData). IsCounted before now o) failed is in
-    let e = c.1 in (c.0, (let h : fault ≤ now = omega arith in h))
+counted : (old now : DeskData) (fault : ℕ) (found : FoundData) → Reads old now found → found ≡ founds.Failed fault → (old.read_faults < fault) × (fault ≤ now.read_faults)
+counted old now fault found is failed =
+    let c : (fault ≡ old.read_faults + 1) × HasFailedRead old now = subst (λ (o : FoundData). Reads old now o) failed is in
+    let n = c.0 in
+    let e : now.read_faults ≡ old.read_faults + 1 = ap (λ (d : DeskData). d.read_faults) c.1.left in
+    ((let low : old.read_faults < fault = omega arith in low), (let top : fault ≤ now.read_faults = omega arith in top))
 
 -- A read was made for a stripe. Where it failed its number is above those of all that failed before.
-pub bench_read : (f : FrontData) (bench : BenchData) (now : DeskData MemoryData) (stripe : ℕ) (fetched : FetchedData) → BenchStands f bench → stripe < f.config.stripes
-    → DeskRead bench.desk.keeper.content (Some now.keeper.content) bench.desk now → FetchedStands f fetched → fetched.ticket.stripe ≡ stripe → IsCounted bench.desk.read_faults now.read_faults fetched.found
-    → BenchStands f (record { desk = now; batch = bench.batch; reads = slice_set bench.reads stripe (Some fetched) })
-bench_read f bench now stripe fetched b there read stands here count =
-    let asked = bench_asked f bench now b read in
-    let more = read.faults in
+pub bench_read : (f : FrontData) (bench : BenchData) (now : DeskData) (stripe : ℕ) (fetched : FetchedData) → BenchStands f bench → stripe < f.config.stripes
+    → FetchedStands f fetched → fetched.ticket.stripe ≡ stripe → Reads bench.desk now fetched.found → BenchStands f (record { desk = now; batch = bench.batch; reads = slice_set bench.reads stripe (Some fetched) })
+bench_read f bench now stripe fetched b there stands here read =
+    let by = asked_by bench.desk now fetched.found read in
+    let asked = bench_asked f bench now b by in
+    let more = by.faults in
     record {
       opened = asked.opened;
       desk = asked.desk;
+      tells = asked.tells;
       known = asked.known;
       batch = asked.batch;
       sure = asked.sure;
@@ -229,16 +224,17 @@ bench_read f bench now stripe fetched b there read stands here count =
     }
   where
     new : (r : FetchedData) (fault : ℕ) → r ≡ fetched → r.found ≡ founds.Failed fault → (bench.desk.read_faults < fault) × (fault ≤ now.read_faults)
-    new r fault same found = counted bench.desk.read_faults now.read_faults fault fetched.found count (ap (λ (q : FetchedData). q.found) (sym same) ∙ found)
+    new r fault same found = counted bench.desk now fault fetched.found read (ap (λ (q : FetchedData). q.found) (sym same) ∙ found)
 
 -- a stripe's read goes, and the others stand on
 cleared : (f g : FrontData) (bench : BenchData) (stripe : ℕ) → BenchStands f bench → g.config.stripes ≡ f.config.stripes → (world_of g).opened ≡ true
-    → DeskStands g bench.desk.keeper.content bench.desk.stored bench.desk.doubt bench.desk.noted bench.desk.read_faults → IfSome bench.batch (λ b. BatchStands g bench.desk.stored b)
+    → DeskStands g bench.desk → IfSome bench.batch (λ b. BatchStands g bench.desk.stored b)
     → ((i : ℕ) (r : FetchedData) → i ≢ stripe → slice_get bench.reads i ≡ Some (Some r) → FetchedStands f r → FetchedStands g r)
     → BenchStands g (record bench { reads = slice_set bench.reads stripe None })
 cleared f g bench stripe b config opened desk batch keeps = record {
   opened = opened;
   desk = desk;
+  tells = b.tells;
   known = b.known;
   batch = batch;
   sure = b.sure;
@@ -267,8 +263,8 @@ cleared_failed f bench stripe fault fetched legal then b at failed =
     let some = b.faults stripe fetched fault at failed in
     let start = started_low f legal in let low = b.desk.low in
     cleared f (with_event f event) bench stripe b refl (opened_stays f event b.opened)
-    (desk_tells f fetched.ticket fault bench.desk.keeper.content bench.desk.stored bench.desk.doubt bench.desk.noted bench.desk.read_faults legal some.0 some.1 b.desk)
-    (batch_later f event bench.desk.stored bench.batch (omega arith) b.batch)
+    (desk_tells f fetched.ticket fault bench.desk legal some.0 some.1 b.desk)
+    (batch_later f event bench.desk.stored bench.batch (omega arith) refl b.batch)
     (λ i r differ to s. fetched_keeps f event r (may_of f event then)
     (apart_failed r.found fetched.ticket fault (λ other found. b.apart stripe i fetched r fault other (λ e. differ (sym e)) at to failed found)) s)
 
@@ -283,17 +279,25 @@ bench_merged f g bench stripe fetched part left mergings.Failed legal then b at 
     (cleared_failed f bench stripe is.0 fetched legal (subst IsLegal is.2 then) b at is.1)
 bench_merged f g bench stripe fetched part left mergings.NoMemory legal then b at is = cleared_same f g bench stripe b is.0
 
-new_stands : (config : Config) (id : ℕ) (fails : List ℕ) (reads : List (Option FetchedData)) → length reads ≡ config.stripes → ((stripe : ℕ) (r : FetchedData) → slice_get reads stripe ≡ Some (Some r) → ⊥)
-    → BenchStands (record { config = config; id = id; start = Some empty_start; events = events.Opened ∷ [] }) (record { desk = new_desk (empty_memory fails); batch = None; reads = reads })
-new_stands config id fails reads count none = record {
+empty_holds : (config : Config) (id : ℕ) (content : Option Content) → content ≡ Some empty_content → HoldsIfTold (record { config = config; id = id; start = Some empty_start; events = events.Opened ∷ [] }) content 0
+empty_holds config id None is = tt
+empty_holds config id (Some content) is =
+    let same : content ≡ empty_content = cc in
+    record { docs = ap (λ (c : Content). c.docs) same; version = ap (λ (c : Content). c.version) same; high = ap (λ (c : Content). c.high) same; maxcas = ap (λ (c : Content). c.maxcas) same }
+
+new_stands : (config : Config) (id : ℕ) (keeper : KeeperData) (reads : List (Option FetchedData)) → keeper.content ≡ Some empty_content → length reads ≡ config.stripes → ((stripe : ℕ) (r : FetchedData) → slice_get reads stripe ≡ Some (Some r) → ⊥)
+    → BenchStands (record { config = config; id = id; start = Some empty_start; events = events.Opened ∷ [] }) (record { desk = new_desk keeper; batch = None; reads = reads })
+new_stands config id keeper reads holds count none = record {
   opened = refl;
   desk = record {
     low = omega arith;
     top = omega arith;
-    holds = record { docs = refl; high = refl; maxcas = refl };
+    holds = empty_holds config id keeper.content holds;
     persisted = refl;
     told = (tt, tt);
+    is_told = refl;
   };
+  tells = subst (λ (o : Option Content). IsSome o) (sym holds) refl;
   known = refl;
   batch = tt;
   sure = tt;
@@ -304,9 +308,9 @@ new_stands config id fails reads count none = record {
 }
 
 -- a desk before an empty store, where a vBucket just opened with nothing and no read was made
-pub bench_new : (f : FrontData) (fails : List ℕ) (reads : List (Option FetchedData)) → f.start ≡ Some empty_start → f.events ≡ events.Opened ∷ [] → length reads ≡ f.config.stripes
-    → ((stripe : ℕ) (r : FetchedData) → slice_get reads stripe ≡ Some (Some r) → ⊥) → BenchStands f (record { desk = new_desk (empty_memory fails); batch = None; reads = reads })
-bench_new f fails reads start is count none =
-    let bench : BenchData = record { desk = new_desk (empty_memory fails); batch = None; reads = reads } in
+pub bench_new : (f : FrontData) (keeper : KeeperData) (reads : List (Option FetchedData)) → f.start ≡ Some empty_start → f.events ≡ events.Opened ∷ [] → keeper.content ≡ Some empty_content → length reads ≡ f.config.stripes
+    → ((stripe : ℕ) (r : FetchedData) → slice_get reads stripe ≡ Some (Some r) → ⊥) → BenchStands f (record { desk = new_desk keeper; batch = None; reads = reads })
+bench_new f keeper reads start is holds count none =
+    let bench : BenchData = record { desk = new_desk keeper; batch = None; reads = reads } in
     subst (λ (l : List EventData). BenchStands (record f { events = l }) bench) (sym is)
-    (subst (λ (s : Option StartData). BenchStands (record { config = f.config; id = f.id; start = s; events = events.Opened ∷ [] }) bench) (sym start) (new_stands f.config f.id fails reads count none))
+    (subst (λ (s : Option StartData). BenchStands (record { config = f.config; id = f.id; start = s; events = events.Opened ∷ [] }) bench) (sym start) (new_stands f.config f.id keeper reads holds count none))

@@ -1,6 +1,6 @@
 -- What the work at a stage of one vBucket is to the world and to the bench.
 use Rattle.std.proofs.Common.{◌≡◌, ◌<◌, ℕ, zero, suc, Bool, true, inl, inr, List, [], ◌∷◌, length, map, slice_get, slice_set, slice_index_or, refl, sym, ap, subst, ◌∙◌, arith}
-use Rattle.std.specs.Prelude.{Option, Some, None, IfSome, is_some, ◌||◌, Result, Ok, Err, OkIff}
+use Rattle.std.specs.Prelude.{Option, Some, None, is_some, ◌||◌, Result, Ok, Err, OkIff}
 use Rattle.std.specs.Option.{option_map}
 use Rattle.std.proofs.lemmas.List.{map-set}
 use Rattle.std.specs.Result.{result_unwrap_or}
@@ -9,11 +9,10 @@ use Rattle.ep_model.specs.declared.config.Config.{Config}
 use Rattle.ep_model.specs.declared.data.FrontData.{FrontData}
 use Rattle.ep_model.specs.declared.event.PartName.{PartName}
 use Rattle.ep_model.specs.declared.event.PartName.TheVariants.{Stripe}
+use Rattle.ep_model.specs.Front.{world_of}
 use Rattle.hold_stage.specs.Touches.{there, is_stripe, is_queue, is_desk}
 use Rattle.kv_keeper.specs.declared.data.BatchData.{BatchData}
 use Rattle.kv_keeper.specs.declared.data.DeskData.{DeskData}
-use Rattle.kv_keeper.specs.Kept.{Rose}
-use Rattle.kv_keeper.specs.Memory.{MemoryData}
 use Rattle.vb_world.specs.declared.data.FixedData.{FixedData}
 use Rattle.vb_world.specs.declared.data.WorldData.{WorldData}
 use Rattle.vb_world.specs.World.{front_in, part_in, fixed_in}
@@ -23,11 +22,11 @@ use Rattle.ep_drill.specs.declared.fetched.Fetched.{Fetched}
 use Rattle.ep_drill.specs.declared.data.FetchedData.{FetchedData}
 use Rattle.ep_drill.specs.declared.part.Part.{Part}
 use Rattle.ep_drill.specs.declared.store.Flushed.{Flushed}
-use Rattle.ep_drill.specs.Answers.{IsTaken, IsFlushed, OnFailed}
+use Rattle.ep_drill.specs.Answers.{IsTaken, IsFlushed}
 use Rattle.ep_drill.specs.Calls.{AreHome, KeptBut}
-use Rattle.ep_drill.specs.Fetches.{fetched_data, found_data, DeskRead, IsMerged, IsRead, OnFault, ReadsOldest}
+use Rattle.ep_drill.specs.Fetches.{fetched_data, IsMerged, IsRead, ReadsOldest}
 use Rattle.ep_drill.specs.Core.{BenchStands, Ready, Moved, Rested, count_of}
-use Rattle.ep_drill.specs.Works.{WasTaken, WasDropped, WasFlushed, WasFetched, WasMerged, batch_after, reads_after}
+use Rattle.ep_drill.specs.Works.{WasTaken, WasDropped, WasFlushed, WasFetched, WasMerged, reads_after}
 use Rattle.ep_drill.proofs.MergedLemmas.{get_mapped, flushed_moved, merged_moved}
 use Rattle.ep_drill.proofs.Lists.{set_same}
 use Rattle.ep_drill.proofs.WorkedLemmas.{moved_still, layout_with_room, kept_at}
@@ -120,14 +119,13 @@ module _ (config : Config) (a s z : WorldData Part) (vb sv zv : ℕ) (ready : Re
         }
 
     -- or memory was wanting for one
-    pub was_dropped : after ≡ record bench { batch = None } → WasDropped config vb a z bench after
-    was_dropped left = record { sure = sure; left = left; moved = here_moved; kept = all_still parts }
+    pub was_dropped : after ≡ record bench { batch = None } → ((world_of (front_in s sv)).high ≡ (world_of (front_in s sv)).persisted → ⊥) → WasDropped config vb a z bench after
+    was_dropped left more = record { sure = sure; more = subst (λ (f : FrontData). (world_of f).high ≡ (world_of f).persisted → ⊥) here_front more; left = left; moved = here_moved; kept = all_still parts }
 
     -- The store was read for whoever waits first, or nobody does.
-    pub was_fetched : (stripe : ℕ) (waited : Bool) (now : DeskData MemoryData) (shown read : Option Fetched) → shown ≡ read → waited ≡ is_some read → ReadsOldest (part_in s sv (Stripe stripe)) shown
-        → after ≡ record bench { desk = now; reads = reads_after bench.reads stripe read } → DeskRead bench.desk.keeper.content (Some now.keeper.content) bench.desk now → IsRead (front_in s sv) stripe bench.desk.read_faults now.read_faults shown
-        → IfSome shown (λ fetched. OnFault (found_data fetched.found) (Rose bench.desk.keeper.faults now.keeper.faults)) → WasFetched config vb stripe waited a z bench after
-    was_fetched stripe waited now shown read same waits oldest left store stands rose =
+    pub was_fetched : (stripe : ℕ) (waited : Bool) (now : DeskData) (shown read : Option Fetched) → shown ≡ read → waited ≡ is_some read → ReadsOldest (part_in s sv (Stripe stripe)) shown
+        → after ≡ record bench { desk = now; reads = reads_after bench.reads stripe read } → IsRead (front_in s sv) stripe bench.desk now shown → WasFetched config vb stripe waited a z bench after
+    was_fetched stripe waited now shown read same waits oldest left stands =
         record {
           sure = sure;
           read = read;
@@ -137,10 +135,8 @@ module _ (config : Config) (a s z : WorldData Part) (vb sv zv : ℕ) (ready : Re
           left = left;
           moved = here_moved;
           kept = all_still parts;
-          store = store;
-          stands = subst (λ (f : FrontData). IsRead f stripe bench.desk.read_faults now.read_faults read) here_front
-              (subst (λ (o : Option Fetched). IsRead (front_in s sv) stripe bench.desk.read_faults now.read_faults o) same stands);
-          rose = subst (λ (o : Option Fetched). IfSome o (λ fetched. OnFault (found_data fetched.found) (Rose bench.desk.keeper.faults now.keeper.faults))) same rose;
+          stands = subst (λ (f : FrontData). IsRead f stripe bench.desk now read) here_front
+              (subst (λ (o : Option Fetched). IsRead (front_in s sv) stripe bench.desk now o) same stands);
         }
 
 -- The stage begins at the world `r`, which is the world `a` with other room.
@@ -156,20 +152,20 @@ module _ (config : Config) (a r s z : WorldData Part) (vb sv zv n m : ℕ) (read
   at_end = ap (λ (k : FixedData Part). k.vb) fixed ∙ at
 
   -- a commit went so
-  pub was_flushed : (bench after : BenchData) (now : DeskData MemoryData) (batch : BatchData) (flushed : Flushed) → bench.batch ≡ Some batch → after ≡ record bench { desk = now; batch = batch_after batch flushed }
-      → IsFlushed (front_in s sv) (front_in z zv) (Some now.keeper.content) bench.desk now batch flushed → OnFailed flushed (Rose bench.desk.keeper.faults now.keeper.faults)
+  pub was_flushed : (bench after : BenchData) (now : DeskData) (batch : BatchData) (flushed : Flushed) → bench.desk.doubt ≡ None → bench.batch ≡ Some batch → after ≡ record bench { desk = now; batch = None }
+      → IsFlushed (front_in s sv) (front_in z zv) bench.desk now batch flushed
       → KeptBut (front_in s sv).config (λ p. is_queue p || is_desk p) (part_in s sv) (part_in z zv) → WasFlushed config vb flushed a z bench after
-  was_flushed bench after now batch flushed taken left done rose kept =
-      let from : IsFlushed (front_in a vb) (front_in z zv) (Some now.keeper.content) bench.desk now batch flushed = subst (λ (f : FrontData). IsFlushed f (front_in z zv) (Some now.keeper.content) bench.desk now batch flushed) old_front done in
+  was_flushed bench after now batch flushed sure taken left done kept =
+      let from : IsFlushed (front_in a vb) (front_in z zv) bench.desk now batch flushed = subst (λ (f : FrontData). IsFlushed f (front_in z zv) bench.desk now batch flushed) old_front done in
       record {
         batch = batch;
         desk = now;
+        sure = sure;
         taken = taken;
         left = left;
-        moved = flushed_moved a r s z vb sv zv n m config (Some now.keeper.content) bench.desk now batch flushed ready within room w at fixed home done;
+        moved = flushed_moved a r s z vb sv zv n m config bench.desk now batch flushed ready within room w at fixed home done;
         kept = kept_at config a s z vb sv zv (layout_with_room config a r s n m ready.layout room w) old_part at fixed (λ k p. is_queue p || is_desk p) kept;
-        done = subst (λ (k : ℕ). IsFlushed (front_in a vb) (front_in z k) (Some now.keeper.content) bench.desk now batch flushed) at_end from;
-        rose = rose;
+        done = subst (λ (k : ℕ). IsFlushed (front_in a vb) (front_in z k) bench.desk now batch flushed) at_end from;
       }
 
   -- a merge went so

@@ -2,10 +2,8 @@
 use Rattle.std.proofs.Common.{◌≡◌, ℕ, Bool, true, false, cond, List, [], ◌++◌, refl, sym, ap, subst, ◌∙◌}
 use Rattle.std.specs.Prelude.{Option, Some, None, IfSome, ◌==◌, ◌||◌, ◌&&◌}
 use Rattle.std.proofs.lemmas.Bool.Decides.{Decides-eqb}
-use Rattle.ep_model.specs.declared.call.Reply.{Reply}
 use Rattle.ep_model.specs.declared.call.StoreKind.TheVariants.{Set}
 use Rattle.ep_model.specs.declared.config.Eviction.TheVariants.{Value}
-use Rattle.ep_model.specs.declared.event.Cause.{Cause}
 use Rattle.ep_model.specs.declared.event.PartName.{PartName}
 use Rattle.ep_model.specs.declared.event.PartName.TheVariants.{Stripe, Queue, Desk}
 use Rattle.ep_model.specs.declared.event.Ticket.{Ticket}
@@ -17,42 +15,22 @@ use Rattle.ep_model.specs.declared.data.FrontData.{FrontData}
 use Rattle.ep_model.specs.Config.{fit_of}
 use Rattle.ep_model.specs.Stripes.{stripe_of}
 use Rattle.ep_model.specs.Legal.{May, IsLegal}
-use Rattle.hold_stage.specs.Touches.{is_stripe, touches_call, touches, is_of, is_call, is_desks}
-use Rattle.hold_stage.specs.Grows.{Same, and_this, Covered, IsOwn}
+use Rattle.hold_stage.specs.Touches.{is_stripe, touches_call, touches}
+use Rattle.hold_stage.specs.Grows.{Same, and_this, Covered}
 use Rattle.hold_stage.proofs.Callers.{same_is}
 use Rattle.flat_parts.specs.declared.data.StripeData.{StripeData}
 use Rattle.flat_parts.specs.declared.data.QueueData.{QueueData}
 use Rattle.flat_parts.specs.declared.data.Step.{Step}
 use Rattle.flat_parts.specs.declared.data.Step.TheVariants as steps
 use Rattle.flat_parts.specs.Steps.{read_step, write_step}
+use Rattle.hold_stage.proofs.OwnLemmas.{holds_stripe}
 use Rattle.ep_drill.specs.Stands.{ticket_of, StripeStands, QueueStands, PriorsStand}
-use Rattle.ep_drill.specs.Calls.{is_prior, event_of, noted}
+use Rattle.hold_stage.specs.Went.{noted}
+use Rattle.ep_drill.specs.Calls.{is_prior, event_of}
 use Rattle.ep_drill.proofs.ReadLemmas.{AfterStep}
 use Rattle.ep_drill.proofs.AskLemmas.{read_stands}
 use Rattle.ep_drill.proofs.SetLemmas.{AfterWrite, write_stands}
 use Rattle.ep_drill.proofs.WaitLemmas.{and_left, and_right}
-
--- a caller's own events
-pub own_called : (caller number : ℕ) (desk : Bool) (call : CallData) (now : ℕ) (reply : Reply) (value : List ℕ) → caller ≡ number → IsOwn number desk (events.Called caller call now reply value)
-unfolding is_of is_call is_desks
-own_called caller number desk call now reply value is = record { own = λ _. (Decides-eqb caller number).1 is; desks = λ t. absurd (cc) }
-
-pub own_refused : (caller number : ℕ) (desk : Bool) (call : CallData) (now : ℕ) (cause : Cause) → caller ≡ number → IsOwn number desk (events.Refused caller call now cause)
-unfolding is_of is_call is_desks
-own_refused caller number desk call now cause is = record { own = λ _. (Decides-eqb caller number).1 is; desks = λ t. absurd (cc) }
-
-pub own_asked : (caller number : ℕ) (desk : Bool) (ticket : Ticket) (call : CallData) → caller ≡ number → IsOwn number desk (events.Asked ticket caller call)
-unfolding is_of is_call is_desks
-own_asked caller number desk ticket call is = record { own = λ _. (Decides-eqb caller number).1 is; desks = λ t. absurd (cc) }
-
--- a part of this name is this stripe
-pub stripe_is : (stripe : ℕ) (p : PartName) → is_stripe stripe p ≡ true → p ≡ Stripe stripe
-stripe_is stripe (Stripe other) is = ap Stripe ((Decides-eqb other stripe).0 is)
-stripe_is stripe Queue is = absurd (cc)
-stripe_is stripe Desk is = absurd (cc)
-
-pub holds_stripe : (holds : PartName → Bool) (stripe : ℕ) → holds (Stripe stripe) ≡ true → (p : PartName) → is_stripe stripe p ≡ true → holds p ≡ true
-holds_stripe holds stripe has p is = ap holds (stripe_is stripe p is) ∙ has
 
 pub prior_is : (prior : Option Ticket) (ticket : Ticket) → is_prior prior ticket ≡ true → prior ≡ Some ticket
 prior_is None ticket is = absurd (cc)

@@ -18,7 +18,8 @@ use Rattle.ep_drill.specs.declared.data.CallerData.{CallerData}
 use Rattle.flat_parts.specs.declared.data.Step.{Step}
 use Rattle.flat_parts.specs.declared.data.Step.TheVariants as steps
 use Rattle.ep_drill.specs.Stands.{PriorStands, PriorsStand}
-use Rattle.ep_drill.specs.Calls.{is_prior, event_of, noted}
+use Rattle.hold_stage.specs.Went.{noted}
+use Rattle.ep_drill.specs.Calls.{is_prior, event_of}
 use Rattle.ep_drill.specs.Callers.{answered_by, answered_in, calls_on, next_of, NextStands, CallerStands, after_step}
 use Rattle.ep_drill.proofs.CallLemmas.{prior_is}
 

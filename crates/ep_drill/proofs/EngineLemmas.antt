@@ -17,14 +17,19 @@ use Rattle.ep_drill.specs.declared.owned.Caller.{Caller}
 use Rattle.ep_drill.specs.declared.data.BenchData.{BenchData}
 use Rattle.ep_drill.specs.declared.data.CoreData.{CoreData}
 use Rattle.ep_drill.specs.Parts.{part_stands}
-use Rattle.ep_drill.specs.Calls.{noted}
+use Rattle.hold_stage.specs.Went.{noted}
 use Rattle.ep_drill.specs.Core.{bench_data, core_data, BenchStands, Moved, Worked, Interleaves, Continues, GoesOn}
+use Rattle.ep_drill.proofs.Lists.{set_same}
 use Rattle.ep_drill.proofs.WorkedLemmas.{worked_by}
 use Rattle.ep_drill.proofs.CoreLemmas.{core_worked, core_rested}
 
 -- what was lent out of a list stands there
 pub lent_at : {A : Type 0} (xs : List A) (i : ℕ) (x : A) → i < length xs → x ≡ slice_index_or xs i x → slice_get xs i ≡ Some x
 lent_at xs i x within is = slice_get-get_or xs i x within ∙ ap Some (sym is)
+
+-- the same of another name of the list
+pub lent_from : {A : Type 0} (xs ys : List A) (i : ℕ) (x : A) → ys ≡ xs → i < length ys → x ≡ slice_index_or ys i x → slice_get xs i ≡ Some x
+lent_from xs ys i x same within is = ap (λ l. slice_get l i) (sym same) ∙ lent_at ys i x within is
 
 -- a history with an event more, or with none, is the same one continued
 continued : (f : FrontData) (event : Option EventData) → Continues f (noted f event)
@@ -42,18 +47,18 @@ moved_continues config vb event w z moved u =
     ]
 
 -- the bench that stands in the list, as plain data
-pub bench_at : (benches : List Bench) (vb : ℕ) (bench : Bench) → slice_get benches vb ≡ Some bench → slice_get (map bench_data benches) vb ≡ Some (bench_data bench)
-bench_at benches vb bench at = slice_get-map bench_data benches vb ∙ ap (λ (o : Option Bench). option_map bench_data o) at
+pub bench_at : {K : Type 0} (benches : List (Bench K)) (vb : ℕ) (bench : Bench K) → slice_get benches vb ≡ Some bench → slice_get (map bench_data benches) vb ≡ Some (bench_data bench)
+bench_at benches vb bench at = slice_get-map bench_data benches vb ∙ ap (λ o. option_map bench_data o) at
 
 -- What a step at a bench may rely on: the bench stands, and its vBucket is there.
-pub bench_of : (config : Config) (w : WorldData Part) (benches : List Bench) (callers : List Caller) (vb : ℕ) (bench : Bench) → Interleaves (core_data config w benches callers) → slice_get benches vb ≡ Some bench
+pub bench_of : {K : Type 0} (config : Config) (w : WorldData Part) (benches : List (Bench K)) (callers : List Caller) (vb : ℕ) (bench : Bench K) → Interleaves (core_data config w benches callers) → slice_get benches vb ≡ Some bench
     → BenchStands (front_in w vb) (bench_data bench) × (vb < config.vbuckets)
 bench_of config w benches callers vb bench i at =
     let there : slice_get (map bench_data benches) vb ≡ Some (bench_data bench) = bench_at benches vb bench at in
     (i.benches vb (bench_data bench) there, subst (λ (n : ℕ). vb < n) i.count (slice_get_within (map bench_data benches) vb (bench_data bench) there))
 
 -- A step at a vBucket's bench was made, which stands in its place now.
-pub benched_core : (config : Config) (w z : WorldData Part) (benches : List Bench) (callers : List Caller) (vb : ℕ) (bench after : Bench) → Interleaves (core_data config w benches callers) → slice_get benches vb ≡ Some bench
+pub benched_core : {K : Type 0} (config : Config) (w z : WorldData Part) (benches : List (Bench K)) (callers : List Caller) (vb : ℕ) (bench after : Bench K) → Interleaves (core_data config w benches callers) → slice_get benches vb ≡ Some bench
     → Worked config vb w z → Sound part_stands z → BenchStands (front_in z vb) (bench_data after)
     → Interleaves (core_data config z (slice_set benches vb after) callers) × GoesOn (core_data config w benches callers) (core_data config z (slice_set benches vb after) callers)
 benched_core config w z benches callers vb bench after i at worked sound stands =
@@ -64,13 +69,13 @@ benched_core config w z benches callers vb bench after i at worked sound stands 
     )
 
 -- One that notes nothing.
-pub benched_still : (config : Config) (w z : WorldData Part) (benches : List Bench) (callers : List Caller) (vb : ℕ) (bench after : Bench) → Interleaves (core_data config w benches callers) → slice_get benches vb ≡ Some bench
+pub benched_still : {K : Type 0} (config : Config) (w z : WorldData Part) (benches : List (Bench K)) (callers : List Caller) (vb : ℕ) (bench after : Bench K) → Interleaves (core_data config w benches callers) → slice_get benches vb ≡ Some bench
     → Moved config vb None w z → Sound part_stands z → BenchStands (front_in z vb) (bench_data after)
     → Interleaves (core_data config z (slice_set benches vb after) callers) × GoesOn (core_data config w benches callers) (core_data config z (slice_set benches vb after) callers)
 benched_still config w z benches callers vb bench after i at moved = benched_core config w z benches callers vb bench after i at (worked_by config w z vb None moved tt)
 
 -- One that leaves the bench as it is.
-pub benched_world : (config : Config) (w z : WorldData Part) (benches : List Bench) (callers : List Caller) (vb : ℕ) (bench : Bench) → Interleaves (core_data config w benches callers) → slice_get benches vb ≡ Some bench
+pub benched_world : {K : Type 0} (config : Config) (w z : WorldData Part) (benches : List (Bench K)) (callers : List Caller) (vb : ℕ) (bench : Bench K) → Interleaves (core_data config w benches callers) → slice_get benches vb ≡ Some bench
     → Worked config vb w z → Sound part_stands z → BenchStands (front_in z vb) (bench_data bench)
     → Interleaves (core_data config z benches callers) × GoesOn (core_data config w benches callers) (core_data config z benches callers)
 benched_world config w z benches callers vb bench i at worked sound stands =
@@ -83,7 +88,7 @@ benched_world config w z benches callers vb bench i at worked sound stands =
     )
 
 -- Nothing was noted, and no bench changed.
-pub rested_world : (config : Config) (w z : WorldData Part) (benches : List Bench) (callers : List Caller) (vb : ℕ) → Interleaves (core_data config w benches callers) → Moved config vb None w z → Sound part_stands z
+pub rested_world : {K : Type 0} (config : Config) (w z : WorldData Part) (benches : List (Bench K)) (callers : List Caller) (vb : ℕ) → Interleaves (core_data config w benches callers) → Moved config vb None w z → Sound part_stands z
     → Interleaves (core_data config z benches callers) × GoesOn (core_data config w benches callers) (core_data config z benches callers)
 rested_world config w z benches callers vb i moved sound =
     (core_rested (core_data config w benches callers) z vb i moved sound, record { layout = refl; calls = refl; grown = moved_continues config vb None w z moved })
@@ -91,3 +96,13 @@ rested_world config w z benches callers vb i moved sound =
 -- nothing happened
 pub core_stays : (core : CoreData) → GoesOn core core
 core_stays core = record { layout = refl; calls = refl; grown = λ u. continued (front_in core.world u) None }
+
+-- nor did a core that is seen to be the same
+pub stays_on : (old new : CoreData) → new ≡ old → GoesOn old new
+stays_on old new is = subst (λ (o : CoreData). GoesOn old o) (sym is) (core_stays old)
+
+-- nor did one whose bench was lent out and is back
+pub bench_back : {K : Type 0} (old : CoreData) (config : Config) (w : WorldData Part) (benches : List (Bench K)) (callers : List Caller) (place : ℕ) (bench : Bench K) → core_data config w benches callers ≡ old → place < length benches → bench ≡ slice_index_or benches place bench
+    → GoesOn old (core_data config w (slice_set benches place bench) callers)
+bench_back old config w benches callers place bench is within at =
+    stays_on old (core_data config w (slice_set benches place bench) callers) (ap (λ l. core_data config w l callers) (set_same benches place bench (lent_at benches place bench within at)) ∙ is)

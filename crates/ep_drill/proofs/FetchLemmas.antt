@@ -1,6 +1,6 @@
 -- What a read of the store is to a history, and how it ends.
 use Rattle.std.proofs.Common.{◌≡◌, ◌<◌, ℕ, Bool, true, false, cond, inl, inr, List, [], ◌∷◌, length, refl, sym, ap, subst, ◌∙◌, arith}
-use Rattle.std.specs.Prelude.{Option, Some, None, ◌==◌, ◌||◌, not, Vec}
+use Rattle.std.specs.Prelude.{Option, Some, None, IsSome, ◌==◌, ◌||◌, not, Vec}
 use Rattle.std.specs.Option.{is_some}
 use Rattle.std.specs.List.{AllByRecursion}
 use Rattle.std.specs.FinMap.{get}
@@ -15,14 +15,15 @@ use Rattle.ep_model.specs.declared.event.Ticket.{Ticket}
 use Rattle.ep_model.specs.declared.data.EventData.{EventData}
 use Rattle.ep_model.specs.declared.data.EventData.TheVariants as events
 use Rattle.ep_model.specs.declared.data.FrontData.{FrontData}
-use Rattle.ep_model.specs.World.{Doc, World}
+use Rattle.ep_model.specs.World.{Doc, World, meta_of, doc_from}
 use Rattle.ep_model.specs.Stripes.{stripe_of}
 use Rattle.ep_model.specs.Front.{world_of, with_event, marked}
 use Rattle.ep_model.specs.Legal.{IsNoFault, May, IsLegal}
 use Rattle.hold_stage.specs.Touches.{there, same_part, touches, is_call, is_of, is_desks}
 use Rattle.hold_stage.specs.Grows.{Same, and_this, Covered, IsOwn}
-use Rattle.hold_stage.specs.Mutations.{is_waiting}
+use Rattle.hold_stage.specs.Waits.{is_waiting}
 use Rattle.hold_stage.proofs.Later.{world_step}
+use Rattle.kv_keeper.specs.declared.data.DeskData.{DeskData}
 use Rattle.kv_keeper.specs.Content.{Content}
 use Rattle.flat_parts.specs.declared.data.NodeData.{NodeData}
 use Rattle.flat_parts.specs.declared.data.Outcome.{Outcome}
@@ -34,10 +35,10 @@ use Rattle.ep_drill.specs.declared.data.FoundData.{FoundData}
 use Rattle.ep_drill.specs.declared.data.FoundData.TheVariants as founds
 use Rattle.ep_drill.specs.declared.part.Part.{Part}
 use Rattle.ep_drill.specs.declared.part.Part.TheVariants as parts
-use Rattle.flat_parts.specs.Nodes.{meta_of, doc_of, node_of, node_at, outcome_at, settled, is_waiting_outcome, first_waiting}
+use Rattle.flat_parts.specs.Nodes.{node_of, node_at, outcome_at, settled, is_waiting_outcome, first_waiting}
 use Rattle.ep_drill.specs.Stands.{IsGone, OutcomeStands, ticket_of, PlaceStands, StripeStands, IsFaultWithin, DeskStands, FoundStands, FetchedStands}
 use Rattle.ep_drill.specs.Parts.{Becomes}
-use Rattle.ep_drill.specs.Fetches.{settles, put_back_value, put_back_node, put_back_found, IsOldest, IsFoundIn, IsCounted, IsBack, HasPlace, HasOutcome, HasValue}
+use Rattle.ep_drill.specs.Fetches.{settles, put_back_value, put_back_node, put_back_found, IsOldest, IsFoundIn, Reads, IsBack, HasPlace, HasOutcome, HasValue}
 use Rattle.ep_drill.proofs.AskLemmas.{place_at, ticket_is}
 use Rattle.ep_drill.proofs.WaitLemmas.{waiting_low}
 use Rattle.ep_drill.proofs.StoreLemmas.{waiting_stored, fetched_key, fetched_any, fetched_row}
@@ -82,27 +83,34 @@ fresh_faults : (faults fault : ℕ) (list : List EventData) → faults < fault �
 fresh_faults faults fault [] more h = tt
 fresh_faults faults fault (event ∷ list) more h = (fresh_fault faults fault event more h.0, fresh_faults faults fault list more h.1)
 
--- what was found at a sure desk for whoever waits at a ticket stands
-found_stands : (f : FrontData) (ticket : Ticket) (key : List ℕ) (content : Content) (stored noted before now : ℕ) (found : FoundData) → IsLegal f → f.config.eviction ≡ Value → DeskStands f content stored None noted before → is_waiting f ticket key ≡ true
-    → IsFoundIn content key found → IsCounted before now found → FetchedStands f (fetched_of ticket key found)
-found_stands f ticket key content stored noted before now (founds.Row doc) legal eviction d waits is counted =
-    let w = waiting_stored f ticket key content stored noted before legal eviction d waits in
+-- what was found at a sure desk, whose store tells what it holds, stands for whoever waits at a ticket
+found_stands : (f : FrontData) (ticket : Ticket) (key : List ℕ) (desk now : DeskData) (content : Content) (found : FoundData) → IsLegal f → f.config.eviction ≡ Value → desk.doubt ≡ None → desk.keeper.content ≡ Some content → DeskStands f desk
+    → is_waiting f ticket key ≡ true → IsFoundIn content key found → Reads desk now found → FetchedStands f (fetched_of ticket key found)
+found_stands f ticket key desk now content (founds.Row doc) legal eviction sure told d waits is reads =
+    let w = waiting_stored f ticket key desk content legal eviction sure told d waits in
     let same : w.0 ≡ doc = (let e = sym w.1 ∙ is in cc) in
-    fetched_row f ticket key doc (fetched_of ticket key (founds.Row doc)) legal eviction waits (w.2 ∙ ap Some same) refl refl refl
-found_stands f ticket key content stored noted before now founds.Absent legal eviction d waits is counted =
-    let w = waiting_stored f ticket key content stored noted before legal eviction d waits in
+    fetched_row f ticket key doc (fetched_of ticket key (founds.Row doc)) d.is_told legal eviction waits (w.2 ∙ ap Some same) refl refl refl
+found_stands f ticket key desk now content founds.Absent legal eviction sure told d waits is reads =
+    let w = waiting_stored f ticket key desk content legal eviction sure told d waits in
     absurd (let e = sym w.1 ∙ is in cc)
-found_stands f ticket key content stored noted before now (founds.Failed fault) legal eviction d waits is counted =
-    fetched_any f ticket key (fetched_of ticket key (founds.Failed fault)) legal eviction waits refl refl (fresh_faults before fault f.events counted.0 d.told)
-found_stands f ticket key content stored noted before now founds.NoMemory legal eviction d waits is counted =
-    fetched_any f ticket key (fetched_of ticket key founds.NoMemory) legal eviction waits refl refl tt
+found_stands f ticket key desk now content (founds.Failed fault) legal eviction sure told d waits is reads =
+    fetched_any f ticket key (fetched_of ticket key (founds.Failed fault)) d.is_told legal eviction waits refl refl (fresh_faults desk.read_faults fault f.events (let n = reads.0 in omega arith) d.told)
+found_stands f ticket key desk now content founds.NoMemory legal eviction sure told d waits is reads =
+    fetched_any f ticket key (fetched_of ticket key founds.NoMemory) d.is_told legal eviction waits refl refl tt
+
+-- a store that tells holds something
+pub told_content : (content : Option Content) → IsSome content → (c : Content) × (content ≡ Some c)
+told_content None h = absurd (cc)
+told_content (Some c) h = (c, refl)
 
 -- A read for whoever waits longest in a stripe stands.
-pub read_at : (f₀ f : FrontData) (stripe : ℕ) (x : StripeData) (number : ℕ) (key : Vec ℕ Global) (content : Content) (stored noted before now : ℕ) (found : FoundData) → f ≡ f₀ → IsLegal f → f₀.config.eviction ≡ Value → StripeStands f stripe x
-    → DeskStands f₀ content stored None noted before → IsOldest (first_waiting x.places) (Some (number, key)) → IsFoundIn content key.items found → IsCounted before now found → FetchedStands f₀ (fetched_of (ticket_of stripe number) key.items found)
-read_at f₀ f stripe x number key content stored noted before now found front legal eviction s d oldest is counted =
-    found_stands f₀ (ticket_of stripe number) key.items content stored noted before now found (subst IsLegal front legal) eviction d
-    (oldest_waits f₀ stripe x number key (subst (λ (g : FrontData). StripeStands g stripe x) front s) oldest) is counted
+pub read_at : (f₀ f : FrontData) (stripe : ℕ) (x : StripeData) (number : ℕ) (key : Vec ℕ Global) (desk now : DeskData) (found : FoundData) → f ≡ f₀ → IsLegal f → f₀.config.eviction ≡ Value → StripeStands f stripe x
+    → desk.doubt ≡ None → IsSome desk.keeper.content → DeskStands f₀ desk → IsOldest (first_waiting x.places) (Some (number, key)) → ((c : Content) → desk.keeper.content ≡ Some c → IsFoundIn c key.items found) → Reads desk now found
+    → FetchedStands f₀ (fetched_of (ticket_of stripe number) key.items found)
+read_at f₀ f stripe x number key desk now found front legal eviction s sure tells d oldest is reads =
+    let told = told_content desk.keeper.content tells in
+    found_stands f₀ (ticket_of stripe number) key.items desk now told.0 found (subst IsLegal front legal) eviction sure told.1 d
+    (oldest_waits f₀ stripe x number key (subst (λ (g : FrontData). StripeStands g stripe x) front s) oldest) (is told.0 told.1) reads
 
 -- a place that isn't missing is one
 some_outcome : (o : Option Outcome) → (o ≡ None → ⊥) → (outcome : Outcome) × (o ≡ Some outcome)
@@ -125,7 +133,7 @@ module _ (f : FrontData) (ticket : Ticket) (key : List ℕ) (found : FoundData) 
   place_waits place is p = subst (λ (t : Ticket). is_waiting f t place.key ≡ true) (ticket_is ticket.stripe place.number ticket refl is) p.waiting
 
   place_key : (place : PlaceData) → place.number ≡ ticket.number → PlaceStands f ticket.stripe place → place.key ≡ key
-  place_key place is p = fetched_key f (fetched_of ticket key found) place.key legal value-eviction r (place_waits place is p)
+  place_key place is p = fetched_key f (fetched_of ticket key found) place.key s.is_told legal value-eviction r (place_waits place is p)
 
   key_waits : (outcome_at x.places ticket.number ≡ None → ⊥) → (is_waiting f ticket key ≡ true) × (stripe_of key f.config.stripes ≡ ticket.stripe)
   key_waits has =
@@ -141,34 +149,34 @@ module _ (f : FrontData) (ticket : Ticket) (key : List ℕ) (found : FoundData) 
   pub absent_stands : found ≡ founds.Absent → (place : PlaceData) → place.number ≡ ticket.number → PlaceStands f ticket.stripe place → OutcomeStands f (ticket_of ticket.stripe place.number) place.key outcomes.Absent
   absent_stands is place number p = subst (λ (o : FoundData). FoundStands f ticket o) is r.found place.key (place_waits place number p)
 
-  module _ (meta : Meta) (value : List ℕ) (is : found ≡ founds.Row (doc_of meta value)) (has : outcome_at x.places ticket.number ≡ None → ⊥) where
-    row_doc : get (world_of f).docs key ≡ Some (doc_of meta value)
+  module _ (meta : Meta) (value : List ℕ) (is : found ≡ founds.Row (doc_from meta value)) (has : outcome_at x.places ticket.number ≡ None → ⊥) where
+    row_doc : get (world_of f).docs key ≡ Some (doc_from meta value)
     row_doc = subst (λ (o : FoundData). FoundStands f ticket o) is r.found key (key_waits has).0
 
     row_stays : meta.deleted ≡ false
     row_stays =
-        let l = waiting_low f ticket key legal value-eviction (key_waits has).0 in
-        let e : l.doc ≡ doc_of meta value = (let h = sym l.found ∙ row_doc in cc) in
+        let l = waiting_low f ticket key s.is_told legal value-eviction (key_waits has).0 in
+        let e : l.doc ≡ doc_from meta value = (let h = sym l.found ∙ row_doc in cc) in
         ap (λ (d : Doc). d.deleted) (sym e) ∙ l.stays
 
     -- its value is in memory, or goes there
     back_stands : (y : StripeData) → IsBack x key meta value y true → StripeStands f ticket.stripe y
     back_stands y back = elim back.2 [
       | inl same ↦ subst (λ (z : StripeData). StripeStands f ticket.stripe z) (sym same.1) s
-      | inr away ↦ subst (λ (z : StripeData). StripeStands f ticket.stripe z) (sym away.2) (restored_stands f ticket.stripe key (doc_of meta value) x back.0 back.1 row_doc s)
+      | inr away ↦ subst (λ (z : StripeData). StripeStands f ticket.stripe z) (sym away.2) (restored_stands f ticket.stripe key (doc_from meta value) x back.0 back.1 row_doc s)
     ]
 
     -- so it can't be that it does not
-    no_gone : (docs : Option Doc) → docs ≡ Some (doc_of meta value) → IsGone (marked f ticket.stripe) docs → ⊥
+    no_gone : (docs : Option Doc) → docs ≡ Some (doc_from meta value) → IsGone (marked f ticket.stripe) docs → ⊥
     no_gone None is-doc gone = cc
     no_gone (Some doc) is-doc gone =
-        let e : doc ≡ doc_of meta value = cc in
+        let e : doc ≡ doc_from meta value = cc in
         let t = sym gone.1 ∙ ap (λ (d : Doc). d.deleted) e ∙ row_stays in cc
 
     no_node : (node : NodeData) → meta.len ≡ length value → node_at x.nodes key ≡ Some node → node.meta ≡ meta
     no_node node measured at =
         let n = s.nodes key node at in
-        let e : n.doc ≡ doc_of meta value = (let h = sym n.found ∙ row_doc in cc) in
+        let e : n.doc ≡ doc_from meta value = (let h = sym n.found ∙ row_doc in cc) in
         n.meta ∙ ap meta_of e ∙ ap (λ k. record meta { len = k }) (sym measured)
 
     not_back : (y : StripeData) → meta.len ≡ length value → IsBack x key meta value y false → ⊥
@@ -187,13 +195,13 @@ module _ (f₀ f : FrontData) (ticket : Ticket) (key : List ℕ) (found : FoundD
   read_is = subst (λ (g : FrontData). FetchedStands g (fetched_of ticket key found)) (sym front) r
 
   -- `lent` is the key as a slice
-  pub merged_at : (meta : Meta) (value lent : List ℕ) (y : StripeData) (test : Bool) → found ≡ founds.Row (doc_of meta value) → lent ≡ key → (outcome_at x.places ticket.number ≡ None → ⊥) → IsBack x lent meta value y test → test ≡ true
+  pub merged_at : (meta : Meta) (value lent : List ℕ) (y : StripeData) (test : Bool) → found ≡ founds.Row (doc_from meta value) → lent ≡ key → (outcome_at x.places ticket.number ≡ None → ⊥) → IsBack x lent meta value y test → test ≡ true
       → StripeStands f ticket.stripe (settles y ticket.number outcomes.Merged)
   merged_at meta value lent y test is same has back goes =
       settled_stands f ticket.stripe ticket.number outcomes.Merged y (λ place number p. tt)
       (back_stands f ticket key found x legal eviction_is read_is s meta value is has y (subst (λ b. IsBack x key meta value y b) goes (subst (λ (l : List ℕ). IsBack x l meta value y test) same back)))
 
-  pub never_at : (meta : Meta) (value lent : List ℕ) (y : StripeData) (test : Bool) → found ≡ founds.Row (doc_of meta value) → lent ≡ key → (outcome_at x.places ticket.number ≡ None → ⊥) → meta.len ≡ length value → IsBack x lent meta value y test → test ≡ false → ⊥
+  pub never_at : (meta : Meta) (value lent : List ℕ) (y : StripeData) (test : Bool) → found ≡ founds.Row (doc_from meta value) → lent ≡ key → (outcome_at x.places ticket.number ≡ None → ⊥) → meta.len ≡ length value → IsBack x lent meta value y test → test ≡ false → ⊥
   never_at meta value lent y test is same has measured back stays =
       not_back f ticket key found x legal eviction_is read_is s meta value is has y measured (subst (λ b. IsBack x key meta value y b) stays (subst (λ (l : List ℕ). IsBack x l meta value y test) same back))
 
@@ -296,26 +304,26 @@ module _ (f₀ f : FrontData) (ticket : Ticket) (telling : Bool) (tells new : Pa
     back_value = elim back_is.2 [
       | inl stays ↦ part_value key back_is.0 (ap (λ (z : StripeData). node_at z.nodes key) stays.1 ∙ back_is.1) stays.0
       | inr away ↦
-          part_value key (node_of key (doc_of meta value))
-          (ap (λ (z : StripeData). node_at z.nodes key) away.2 ∙ node_at_put old.nodes (node_of key (doc_of meta value)) key ∙ ap (λ b. cond b (Some (node_of key (doc_of meta value))) (node_at old.nodes key)) ((bytes_eq-Decides key key).1 refl))
+          part_value key (node_of key (doc_from meta value))
+          (ap (λ (z : StripeData). node_at z.nodes key) away.2 ∙ node_at_put old.nodes (node_of key (doc_from meta value)) key ∙ ap (λ b. cond b (Some (node_of key (doc_from meta value))) (node_at old.nodes key)) ((bytes_eq-Decides key key).1 refl))
           (λ e. cc)
     ]
 
     -- a value that is in memory stays
-    still : (o : Option (List ℕ)) → (o ≡ None → ⊥) → old ≡ put_back_value old key (doc_of meta value) o
+    still : (o : Option (List ℕ)) → (o ≡ None → ⊥) → old ≡ put_back_value old key (doc_from meta value) o
     still None has = absurd (has refl)
     still (Some kept) has = refl
 
-    put_back_is : x ≡ put_back_node old key (doc_of meta value) (node_at old.nodes key)
+    put_back_is : x ≡ put_back_node old key (doc_from meta value) (node_at old.nodes key)
     put_back_is =
-        let at-node : x ≡ put_back_node old key (doc_of meta value) (Some back_is.0) = elim back_is.2 [
+        let at-node : x ≡ put_back_node old key (doc_from meta value) (Some back_is.0) = elim back_is.2 [
           | inl stays ↦ stays.1 ∙ still back_is.0.value stays.0
-          | inr away ↦ away.2 ∙ ap (λ (o : Option (List ℕ)). put_back_value old key (doc_of meta value) o) (sym away.0)
+          | inr away ↦ away.2 ∙ ap (λ (o : Option (List ℕ)). put_back_value old key (doc_from meta value) o) (sym away.0)
         ] in
-        at-node ∙ ap (λ (o : Option NodeData). put_back_node old key (doc_of meta value) o) (sym back_is.1)
+        at-node ∙ ap (λ (o : Option NodeData). put_back_node old key (doc_from meta value) o) (sym back_is.1)
 
     -- the stripe is another at the value and the place alone
-    pub back_becomes : (part : Option Part) (found : FoundData) → part ≡ Some (parts.Stripe old) → found ≡ founds.Row (doc_of meta value)
+    pub back_becomes : (part : Option Part) (found : FoundData) → part ≡ Some (parts.Stripe old) → found ≡ founds.Row (doc_from meta value)
         → Becomes part (new (Stripe ticket.stripe)) (λ y. settles (put_back_found y key found) ticket.number outcome)
     back_becomes part found is row =
         let told-so : new (Stripe ticket.stripe) ≡ Some (parts.Stripe (settles (put_back_found old key found) ticket.number outcome)) =

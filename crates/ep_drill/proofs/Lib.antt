@@ -7,6 +7,7 @@ pub mod PartLemmas
 pub mod SetLemmas
 pub mod CallLemmas
 pub mod StageLemmas
+pub mod MarkLemmas
 pub mod FetchLemmas
 pub mod WorldLemmas
 pub mod BenchLemmas

@@ -12,8 +12,6 @@ use Rattle.ep_model.specs.Legal.{IsLegal}
 use Rattle.hold_stage.specs.Touches.{is_call}
 use Rattle.kv_keeper.specs.declared.data.BatchData.{BatchData}
 use Rattle.kv_keeper.specs.declared.data.DeskData.{DeskData}
-use Rattle.kv_keeper.specs.Content.{Content}
-use Rattle.kv_keeper.specs.Memory.{MemoryData}
 use Rattle.vb_world.specs.declared.data.FixedData.{FixedData}
 use Rattle.vb_world.specs.declared.data.WorldData.{WorldData}
 use Rattle.vb_world.specs.World.{front_in, part_in, fixed_in, Sound}
@@ -34,7 +32,7 @@ use Rattle.ep_drill.specs.Fetches.{fetched_data, IsMerged}
 use Rattle.ep_drill.specs.Stands.{DeskStands, BatchStands, FetchedStands}
 use Rattle.ep_drill.specs.Core.{BenchStands, Ready, Moved, Worked}
 use Rattle.ep_drill.specs.Works.{persisted_by, failure_of, failed_by}
-use Rattle.ep_drill.proofs.BenchLemmas.{bench_committed, bench_kept, bench_merged}
+use Rattle.ep_drill.proofs.BenchLemmas.{bench_committed, bench_merged}
 use Rattle.ep_drill.proofs.WorkedLemmas.{moved_with_room, worked_by}
 
 -- what stands at an index of a list that is mapped
@@ -72,6 +70,10 @@ failed_quiet fetched mergings.Stale = tt
 failed_quiet fetched mergings.Failed = failure_quiet fetched.ticket fetched.found
 failed_quiet fetched mergings.NoMemory = tt
 
+-- no commit failed where a batch is left
+pub commit_sure : (f : FrontData) (bench : BenchData) (batch : BatchData) → BenchStands f bench → bench.batch ≡ Some batch → bench.desk.doubt ≡ None
+commit_sure f bench batch b is = subst (λ (o : Option BatchData). IfSome o (λ _. bench.desk.doubt ≡ None)) is b.sure
+
 module _ (a r s z : WorldData Part) (vb sv zv n m : ℕ) where
   -- the history where a stage begins
   pub front_begun : r ≡ record a { event_room = n; byte_room = m } → s ≡ r → sv ≡ vb → front_in s sv ≡ front_in a vb
@@ -87,21 +89,21 @@ module _ (a r s z : WorldData Part) (vb sv zv n m : ℕ) where
 
   module _ (config : Config) where
     -- A commit notes that it was done, and else nothing.
-    pub flushed_moved : (content : Option Content) (old now : DeskData MemoryData) (batch : BatchData) (flushed : Flushed) → Ready config a → vb < config.vbuckets → r ≡ record a { event_room = n; byte_room = m } → s ≡ r → sv ≡ vb
-        → fixed_in z zv ≡ fixed_in s sv → AreHome (front_in s sv).config (part_in z zv) → IsFlushed (front_in s sv) (front_in z zv) content old now batch flushed → Moved config vb (persisted_by batch flushed) a z
-    flushed_moved content old now batch (flushes.Stored number) ready within room w at fixed home is =
+    pub flushed_moved : (old now : DeskData) (batch : BatchData) (flushed : Flushed) → Ready config a → vb < config.vbuckets → r ≡ record a { event_room = n; byte_room = m } → s ≡ r → sv ≡ vb
+        → fixed_in z zv ≡ fixed_in s sv → AreHome (front_in s sv).config (part_in z zv) → IsFlushed (front_in s sv) (front_in z zv) old now batch flushed → Moved config vb (persisted_by batch flushed) a z
+    flushed_moved old now batch (flushes.Stored number) ready within room w at fixed home is =
         let e = Some (events.Persisted batch.to) in
         moved_with_room config a r s z vb sv zv e e n m ready within room w at fixed home is.1 refl
-    flushed_moved content old now batch flushes.Failed ready within room w at fixed home is =
+    flushed_moved old now batch flushes.Failed ready within room w at fixed home is =
         moved_with_room config a r s z vb sv zv None None n m ready within room w at fixed home is.0 refl
-    flushed_moved content old now batch flushes.NoMemory ready within room w at fixed home is =
+    flushed_moved old now batch flushes.NoMemory ready within room w at fixed home is =
         moved_with_room config a r s z vb sv zv None None n m ready within room w at fixed home is.0 refl
 
     -- A commit is work at its vBucket.
-    pub flushed_at : (content : Option Content) (old now : DeskData MemoryData) (batch : BatchData) (flushed : Flushed) → Ready config a → vb < config.vbuckets → r ≡ record a { event_room = n; byte_room = m } → s ≡ r → sv ≡ vb
-        → fixed_in z zv ≡ fixed_in s sv → AreHome (front_in s sv).config (part_in z zv) → IsFlushed (front_in s sv) (front_in z zv) content old now batch flushed → Worked config vb a z
-    flushed_at content old now batch flushed ready within room w at fixed home is =
-        worked_by config a z vb (persisted_by batch flushed) (flushed_moved content old now batch flushed ready within room w at fixed home is) (persisted_quiet batch flushed)
+    pub flushed_at : (old now : DeskData) (batch : BatchData) (flushed : Flushed) → Ready config a → vb < config.vbuckets → r ≡ record a { event_room = n; byte_room = m } → s ≡ r → sv ≡ vb
+        → fixed_in z zv ≡ fixed_in s sv → AreHome (front_in s sv).config (part_in z zv) → IsFlushed (front_in s sv) (front_in z zv) old now batch flushed → Worked config vb a z
+    flushed_at old now batch flushed ready within room w at fixed home is =
+        worked_by config a z vb (persisted_by batch flushed) (flushed_moved old now batch flushed ready within room w at fixed home is) (persisted_quiet batch flushed)
 
     -- A merge notes a read that failed, and else nothing.
     pub merged_moved : (part left : Option Part) (fetched : FetchedData) (merging : Merging) → Ready config a → vb < config.vbuckets → r ≡ record a { event_room = n; byte_room = m } → s ≡ r → sv ≡ vb
@@ -125,45 +127,24 @@ module _ (a r s z : WorldData Part) (vb sv zv n m : ℕ) where
 
   -- What a commit needs of the bench, where its stage begins.
   pub commit_ready : (bench : BenchData) (batch : BatchData) → r ≡ record a { event_room = n; byte_room = m } → s ≡ r → sv ≡ vb → BenchStands (front_in a vb) bench → bench.batch ≡ Some batch
-      → (bench.desk.doubt ≡ None) × (DeskStands (front_in s sv) bench.desk.keeper.content bench.desk.stored None bench.desk.noted bench.desk.read_faults)
-      × (bench.desk.stored ≡ (world_of (front_in s sv)).persisted) × BatchStands (front_in s sv) bench.desk.stored batch
+      → (bench.desk.doubt ≡ None) × DeskStands (front_in s sv) bench.desk × BatchStands (front_in s sv) bench.desk.stored batch
   commit_ready bench batch room w at b is =
       let f = sym (front_begun room w at) in
-      let sure : bench.desk.doubt ≡ None = subst (λ (o : Option BatchData). IfSome o (λ _. bench.desk.doubt ≡ None)) is b.sure in
       let stands : BatchStands (front_in a vb) bench.desk.stored batch = subst (λ (o : Option BatchData). IfSome o (λ k. BatchStands (front_in a vb) bench.desk.stored k)) is b.batch in (
-        sure,
-        subst (λ (h : FrontData). DeskStands h bench.desk.keeper.content bench.desk.stored None bench.desk.noted bench.desk.read_faults) f
-            (subst (λ (o : Option ℕ). DeskStands (front_in a vb) bench.desk.keeper.content bench.desk.stored o bench.desk.noted bench.desk.read_faults) sure b.desk),
-        b.known ∙ b.desk.persisted ∙ ap (λ (h : FrontData). (world_of h).persisted) f,
+        commit_sure (front_in a vb) bench batch b is,
+        subst (λ (h : FrontData). DeskStands h bench.desk) f b.desk,
         subst (λ (h : FrontData). BatchStands h bench.desk.stored batch) f stands,
       )
 
   -- The bench behind a commit, whose batch isn't there any more.
-  pub commit_left : (bench : BenchData) (now : DeskData MemoryData) (batch : BatchData) (left : Option BatchData) (flushed : Flushed) → r ≡ record a { event_room = n; byte_room = m } → s ≡ r → sv ≡ vb → fixed_in z zv ≡ fixed_in s sv
-      → Sound part_stands r → Sound part_stands z → BenchStands (front_in a vb) bench → bench.batch ≡ Some batch → left ≡ None
-      → IsFlushed (front_in s sv) (front_in z zv) (Some now.keeper.content) bench.desk now batch flushed → BenchStands (front_in z vb) (record { desk = now; batch = left; reads = bench.reads })
-  commit_left bench now batch left flushed room w at fixed before after b is none flush =
-      let sure : bench.desk.doubt ≡ None = subst (λ (o : Option BatchData). IfSome o (λ _. bench.desk.doubt ≡ None)) is b.sure in
-      let stands : BatchStands (front_in a vb) bench.desk.stored batch = subst (λ (o : Option BatchData). IfSome o (λ k. BatchStands (front_in a vb) bench.desk.stored k)) is b.batch in
-      let from : IsFlushed (front_in a vb) (front_in z zv) (Some now.keeper.content) bench.desk now batch flushed =
-      subst (λ (h : FrontData). IsFlushed h (front_in z zv) (Some now.keeper.content) bench.desk now batch flushed) (front_begun room w at) flush in
-      let to : IsFlushed (front_in a vb) (front_in z vb) (Some now.keeper.content) bench.desk now batch flushed =
-      subst (λ (h : FrontData). IsFlushed (front_in a vb) h (Some now.keeper.content) bench.desk now batch flushed) (front_ended at fixed) from in
+  pub commit_left : (bench : BenchData) (now : DeskData) (batch : BatchData) (left : Option BatchData) (flushed : Flushed) → r ≡ record a { event_room = n; byte_room = m } → s ≡ r → sv ≡ vb → fixed_in z zv ≡ fixed_in s sv
+      → Sound part_stands r → Sound part_stands z → BenchStands (front_in a vb) bench → left ≡ None
+      → IsFlushed (front_in s sv) (front_in z zv) bench.desk now batch flushed → BenchStands (front_in z vb) (record { desk = now; batch = left; reads = bench.reads })
+  commit_left bench now batch left flushed room w at fixed before after b none flush =
+      let from : IsFlushed (front_in a vb) (front_in z zv) bench.desk now batch flushed = subst (λ (h : FrontData). IsFlushed h (front_in z zv) bench.desk now batch flushed) (front_begun room w at) flush in
+      let to : IsFlushed (front_in a vb) (front_in z vb) bench.desk now batch flushed = subst (λ (h : FrontData). IsFlushed (front_in a vb) h bench.desk now batch flushed) (front_ended at fixed) from in
       subst (λ (o : Option BatchData). BenchStands (front_in z vb) (record { desk = now; batch = o; reads = bench.reads })) (sym none)
-      (bench_committed (front_in a vb) (front_in z vb) bench now batch flushed (legal_begun room before) (after.legal vb) b stands sure to)
-
-  -- The same where memory was wanting: the batch is kept.
-  pub commit_again : (bench : BenchData) (now : DeskData MemoryData) (batch : BatchData) → r ≡ record a { event_room = n; byte_room = m } → s ≡ r → sv ≡ vb → fixed_in z zv ≡ fixed_in s sv
-      → Sound part_stands r → Sound part_stands z → BenchStands (front_in a vb) bench → bench.batch ≡ Some batch
-      → IsFlushed (front_in s sv) (front_in z zv) (Some now.keeper.content) bench.desk now batch flushes.NoMemory → BenchStands (front_in z vb) (record { desk = now; batch = Some batch; reads = bench.reads })
-  commit_again bench now batch room w at fixed before after b is flush =
-      let sure : bench.desk.doubt ≡ None = subst (λ (o : Option BatchData). IfSome o (λ _. bench.desk.doubt ≡ None)) is b.sure in
-      let stands : BatchStands (front_in a vb) bench.desk.stored batch = subst (λ (o : Option BatchData). IfSome o (λ k. BatchStands (front_in a vb) bench.desk.stored k)) is b.batch in
-      let from : IsFlushed (front_in a vb) (front_in z zv) (Some now.keeper.content) bench.desk now batch flushes.NoMemory =
-      subst (λ (h : FrontData). IsFlushed h (front_in z zv) (Some now.keeper.content) bench.desk now batch flushes.NoMemory) (front_begun room w at) flush in
-      let to : IsFlushed (front_in a vb) (front_in z vb) (Some now.keeper.content) bench.desk now batch flushes.NoMemory =
-      subst (λ (h : FrontData). IsFlushed (front_in a vb) h (Some now.keeper.content) bench.desk now batch flushes.NoMemory) (front_ended at fixed) from in
-      bench_kept (front_in a vb) (front_in z vb) bench now batch (legal_begun room before) (after.legal vb) b stands sure to
+      (bench_committed (front_in a vb) (front_in z vb) bench now batch flushed (legal_begun room before) (after.legal vb) b to)
 
   -- What a merge needs of the read, where its stage begins.
   pub merge_ready : (config : Config) (bench : BenchData) (stripe : ℕ) (fetched : FetchedData) → Ready config a → stripe < config.stripes → r ≡ record a { event_room = n; byte_room = m } → s ≡ r → sv ≡ vb

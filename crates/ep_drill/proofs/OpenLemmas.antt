@@ -47,6 +47,7 @@ stripe_new f stripe here = record {
   places = tt;
   next = (tt, tt);
   closed = λ is. refl;
+  is_told = refl;
 }
 
 front_is : (f : FrontData) → IsNew f → f ≡ front_with f (Some empty_start) (events.Opened ∷ [])
@@ -112,10 +113,11 @@ stripe_bare config id stripe here = record {
   places = tt;
   next = tt;
   closed = λ is. refl;
+  is_told = refl;
 }
 
 queue_bare : (config : Config) (id : ℕ) → QueueStands (bare_front config id) (empty_queue false)
-queue_bare config id = record { items = refl; high = refl; maxcas = refl; persisted = refl; state = refl; opened = refl; table = refl }
+queue_bare config id = record { items = refl; high = refl; maxcas = refl; persisted = refl; state = refl; opened = refl; table = refl; is_told = refl }
 
 -- a part by the tests of which place it has
 abbrev named : Bool → Bool → ℕ → PartName

@@ -16,13 +16,16 @@ use Rattle.ep_model.specs.World.{Doc, Docs, World}
 use Rattle.ep_model.specs.History.{upto}
 use Rattle.ep_model.specs.Front.{begun, world_of, with_event, marked}
 use Rattle.ep_model.specs.Legal.{IsUnused, IsBelow, IsNoFault, HasAsked, HasFailed, May, IsLegal}
-use Rattle.hold_stage.specs.Mutations.{mutations, above}
+use Rattle.ep_model.specs.Mutations.{mutations, above}
 use Rattle.hold_stage.proofs.Callers.{same_is}
-use Rattle.hold_stage.proofs.Later.{world_step, all_append}
+use Rattle.hold_stage.proofs.Later.{same_told, world_step, all_append}
 use Rattle.hold_stage.proofs.Bounds.{legal_bounds, marked_step}
 use Rattle.hold_stage.proofs.Stored.{above_above}
 use Rattle.kv_keeper.specs.declared.data.BatchData.{BatchData}
-use Rattle.kv_keeper.specs.Content.{Content}
+use Rattle.kv_keeper.specs.declared.data.DeskData.{DeskData}
+use Rattle.kv_keeper.specs.Content.{Content, KeeperData}
+use Rattle.kv_keeper.specs.Kept.{IsDoubtful, all_committed}
+use Rattle.ep_drill.specs.Answers.{state_for, whole}
 use Rattle.kv_keeper.specs.Batch.{laid}
 use Rattle.flat_parts.specs.declared.data.NodeData.{NodeData}
 use Rattle.flat_parts.specs.declared.data.Outcome.{Outcome}
@@ -32,13 +35,14 @@ use Rattle.flat_parts.specs.declared.data.StripeData.{StripeData}
 use Rattle.flat_parts.specs.declared.data.QueueData.{QueueData}
 use Rattle.flat_parts.specs.Nodes.{node_of, node_at, has_value, is_ejectable, ejected, settle_place, settled}
 use Rattle.flat_parts.specs.Steps.{page_step, restored}
-use Rattle.ep_drill.specs.Stands.{ValueStands, NodeStands, IsGone, IsNoRead, IsAbsent, OutcomeStands, ticket_of, PlaceStands, StripeStands, QueueStands, IsFaultWithin, HoldsAt, DeskStands, BatchStands}
+use Rattle.hold_stage.proofs.RisesLemmas.{high_rises}
+use Rattle.ep_drill.specs.Stands.{ValueStands, NodeStands, IsGone, IsNoRead, IsAbsent, OutcomeStands, ticket_of, PlaceStands, StripeStands, QueueStands, IsFaultWithin, HoldsIfTold, ContentStands, DeskStands, BatchStands}
 use Rattle.ep_drill.specs.Keeps.{has_failed_later, waiting_later, mutations_step, same_table}
 use Rattle.ep_drill.proofs.ReadLemmas.{IsCalm, places_calm, stripe_calm}
 use Rattle.ep_drill.proofs.AskLemmas.{with_places, ticket_is}
 use Rattle.ep_drill.proofs.SetLemmas.{node_at_put}
 use Rattle.ep_drill.proofs.WaitLemmas.{and_left, and_right, not_true}
-use Rattle.ep_drill.proofs.StoreLemmas.{upto_step, high_rises}
+use Rattle.ep_drill.proofs.StoreLemmas.{upto_step}
 
 -- a stripe is marked
 module _ (f : FrontData) (stripe number : ℕ) (x : StripeData) (opened : (world_of f).opened ≡ true) (above-mark : marked f stripe < number) (stored : number ≤ (world_of f).persisted) (s : StripeStands f stripe x) where
@@ -81,6 +85,7 @@ module _ (f : FrontData) (stripe number : ℕ) (x : StripeData) (opened : (world
         places = places_calm f stripe event x.places same refl (calm_places x.places) s.places;
         next = all_append (IsBelow (ticket_of stripe x.next)) f.events (event ∷ []) s.next (tt, tt);
         closed = λ shut. s.closed (sym (ap (λ (w : World). w.opened) same) ∙ shut);
+        is_told = same_told f event ∙ s.is_told;
       }
 
 -- ejecting keeps keys and metadata
@@ -133,6 +138,7 @@ page_stands f stripe x s = record {
   places = s.places;
   next = s.next;
   closed = s.closed;
+  is_told = s.is_told;
 }
 
 -- a place whose read was settled
@@ -228,16 +234,17 @@ restored_stands f stripe key doc x node found stands s = record {
   places = s.places;
   next = s.next;
   closed = s.closed;
+  is_told = s.is_told;
 }
 
 -- a batch was committed: that is told, and the queue keeps what is above it
-module _ (f : FrontData) (stored faults told : ℕ) (batch : BatchData) (content : Content) (version : ℕ) (legal : IsLegal f) (d : DeskStands f content stored None told faults) (b : BatchStands f stored batch) (known : stored ≡ (world_of f).persisted) where
-  abbrev success : EventData
+module _ (f : FrontData) (desk : DeskData) (batch : BatchData) (legal : IsLegal f) (d : DeskStands f desk) (sure : desk.doubt ≡ None) (b : BatchStands f desk.stored batch) where
+  abbrev pub success : EventData
   success = events.Persisted batch.to
 
   pub may_persist : May f success
   unfolding May
-  may_persist = record { opened = b.opened; above = (let h = b.low in omega arith); within = b.top }
+  may_persist = record { opened = b.opened; above = b.above; within = b.top }
 
   persisted_is : (world_of (with_event f success)).persisted ≡ batch.to
   persisted_is = ap (λ (w : World). w.persisted) (world_step f success)
@@ -248,7 +255,7 @@ module _ (f : FrontData) (stored faults told : ℕ) (batch : BatchData) (content
       record {
         items =
             ap (above batch.to) s.items
-            ∙ above_above (world_of f).persisted batch.to (mutations (begun f) f.events) (let h = b.low in omega arith)
+            ∙ above_above (world_of f).persisted batch.to (mutations (begun f) f.events) (let h = b.above in omega arith)
             ∙ sym (ap (λ n. above n (mutations (begun f) (with_event f success).events)) persisted_is ∙ ap (above batch.to) (mutations_step f success ∙ append-nil (mutations (begun f) f.events)));
         high = s.high ∙ sym (ap (λ (w : World). w.high) same);
         maxcas = s.maxcas ∙ sym (ap (λ (w : World). w.maxcas) same);
@@ -256,36 +263,50 @@ module _ (f : FrontData) (stored faults told : ℕ) (batch : BatchData) (content
         state = s.state ∙ sym (ap (λ (w : World). w.state) same);
         opened = s.opened ∙ sym (ap (λ (w : World). w.opened) same);
         table = same_table f success ∙ s.table;
+        is_told = same_told f success ∙ s.is_told;
       }
 
-  abbrev whole : Content
-  whole = record { docs = laid batch.rows content.docs; version = version; high = batch.to; maxcas = batch.maxcas }
-
   at_batch : upto (begun f) (with_event f success).events batch.to ≡ upto (begun f) f.events batch.to
-  at_batch = let bounds = legal_bounds f legal in let start = bounds.start in let low = b.low in upto_step f success batch.to (omega arith) b.top
+  at_batch = let bounds = legal_bounds f legal in let start = bounds.start in let low = b.above in upto_step f success batch.to (omega arith) b.top
 
-  pub persisted_desk : DeskStands (with_event f success) whole batch.to None batch.to faults
+  before : ContentStands f desk.keeper desk.stored None
+  before = subst (λ (o : Option ℕ). ContentStands f desk.keeper desk.stored o) sure d.holds
+
+  -- what the store told holds the history up to the batch's number, once the batch is in it
+  laid_holds : (content : Option Content) → HoldsIfTold f content desk.stored → HoldsIfTold f (all_committed content batch (state_for batch)) batch.to
+  laid_holds None h = tt
+  laid_holds (Some content) h = record { docs = ap (λ (docs : Docs). laid batch.rows docs) h.docs ∙ b.docs; version = refl; high = refl; maxcas = b.maxcas }
+
+  told_on : (content : Option Content) → HoldsIfTold f content batch.to → HoldsIfTold (with_event f success) content batch.to
+  told_on None h = tt
+  told_on (Some content) h = record { docs = h.docs ∙ ap (λ (w : World). w.docs) (sym at_batch); version = h.version; high = h.high; maxcas = h.maxcas ∙ ap (λ (w : World). w.maxcas) (sym at_batch) }
+
+  pub persisted_desk : DeskStands (with_event f success) (record desk { keeper = record desk.keeper { content = whole desk.keeper batch }; stored = batch.to; noted = batch.to; doubt = None })
   persisted_desk = record {
     low = omega (arith, persisted_is);
     top = let h = high_rises f success in let t = b.top in omega arith;
-    holds = record { docs = ap (λ (docs : Docs). laid batch.rows docs) d.holds.docs ∙ b.docs ∙ ap (λ (w : World). w.docs) (sym at_batch); high = refl; maxcas = b.maxcas ∙ ap (λ (w : World). w.maxcas) (sym at_batch) };
+    holds = told_on (whole desk.keeper batch) (laid_holds desk.keeper.content before);
     persisted = sym persisted_is;
-    told = all_append (IsFaultWithin faults) f.events (success ∷ []) d.told (tt, tt);
+    told = all_append (IsFaultWithin desk.read_faults) f.events (success ∷ []) d.told (tt, tt);
+    is_told = same_told f success ∙ d.is_told;
   }
 
   -- the commit failed: the store holds what it held, or all of it
-  pub doubted_desk : (now : Content) → (now ≡ content) ⊎ (now ≡ whole) → DeskStands f now stored (Some batch.to) told faults
-  doubted_desk now which = record {
-    low = d.low;
-    top = d.top;
-    holds = (
-      (let h = b.low in omega arith),
-      b.top,
-      elim which [
-        | inl old ↦ inl (subst (λ (c : Content). HoldsAt f c stored) (sym old) d.holds)
-        | inr new ↦ inr (subst (λ (c : Content). HoldsAt f c batch.to) (sym new) (record { docs = ap (λ (docs : Docs). laid batch.rows docs) d.holds.docs ∙ b.docs; high = refl; maxcas = b.maxcas }))
-      ],
-    );
-    persisted = d.persisted;
-    told = d.told;
-  }
+  pub doubted_desk : (keeper : KeeperData) → IsDoubtful desk.keeper (whole desk.keeper batch) keeper → DeskStands f (record desk { keeper = keeper; doubt = Some batch.to })
+  doubted_desk keeper doubtful =
+      let all : HoldsIfTold f (whole desk.keeper batch) batch.to = laid_holds desk.keeper.content before in
+      record {
+        low = d.low;
+        top = d.top;
+        holds = (
+          b.low,
+          b.top,
+          elim doubtful.which [
+            | inl old ↦ inl (subst (λ (o : Option Content). HoldsIfTold f o desk.stored) (sym old.0) before, subst (λ (o : Option Content). HoldsIfTold f o batch.to) (sym old.1) all)
+            | inr new ↦ inr (subst (λ (o : Option Content). HoldsIfTold f o batch.to) (sym new.0) all, subst (λ (o : Option Content). HoldsIfTold f o desk.stored) (sym new.1) before)
+          ],
+        );
+        persisted = d.persisted;
+        told = d.told;
+        is_told = d.is_told;
+      }

@@ -15,9 +15,10 @@ use Rattle.ep_model.specs.World.{World}
 use Rattle.ep_model.specs.Answer.{Answer, answer, apply, Effect}
 use Rattle.ep_model.specs.Front.{world_of, with_event, mark_after, marked}
 use Rattle.ep_model.specs.Legal.{IsUnused, IsBelow, May}
-use Rattle.hold_stage.specs.Mutations.{put_by, mutation_of, puts_on}
-use Rattle.hold_stage.proofs.Effects.{effect_of_get}
-use Rattle.hold_stage.proofs.Later.{world_step, all_append}
+use Rattle.ep_model.specs.Mutations.{put_by, mutation_of}
+use Rattle.hold_stage.specs.Waits.{puts_on}
+use Rattle.ep_model.proofs.EffectLemmas.{get_done}
+use Rattle.hold_stage.proofs.Later.{same_told, world_step, all_append}
 use Rattle.hold_stage.proofs.Bounds.{marked_step}
 use Rattle.flat_parts.specs.declared.data.Outcome.{Outcome}
 use Rattle.flat_parts.specs.declared.data.Outcome.TheVariants as outcomes
@@ -109,6 +110,7 @@ stripe_calm f stripe event x places next same mark stand below closed s =
       places = stand;
       next = below;
       closed = λ shut. closed (sym (ap (λ (w : World). w.opened) same) ∙ shut);
+      is_told = same_told f event ∙ s.is_told;
     }
 
 -- the places that are left when one is released, with what is known of them
@@ -127,10 +129,10 @@ calm_all stripe event (place ∷ places) h = (h place, calm_all stripe event pla
 
 -- a Get changes no world
 get_world : (f : FrontData) (caller now : ℕ) (key value : List ℕ) (reply : Reply) → world_of (with_event f (events.Called caller (calls.Get key) now reply value)) ≡ world_of f
-get_world f caller now key value reply = world_step f (events.Called caller (calls.Get key) now reply value) ∙ ap (λ (e : Effect). apply (world_of f) e) (effect_of_get (world_of f) key now)
+get_world f caller now key value reply = world_step f (events.Called caller (calls.Get key) now reply value) ∙ ap (λ (e : Effect). apply (world_of f) e) (get_done (world_of f) key now reply)
 
 get_puts : (w : World) (caller now : ℕ) (key value : List ℕ) (reply : Reply) → mutation_of w (events.Called caller (calls.Get key) now reply value) ≡ None
-get_puts w caller now key value reply = ap put_by (effect_of_get w key now)
+get_puts w caller now key value reply = ap put_by (get_done w key now reply)
 
 -- a Get that is answered as the world says
 module _ (f : FrontData) (stripe caller now : ℕ) (key : List ℕ) (prior : Option Ticket) (x : StripeData) (s : StripeStands f stripe x) where
@@ -139,7 +141,7 @@ module _ (f : FrontData) (stripe caller now : ℕ) (key : List ℕ) (prior : Opt
   unfolding May
   after_done a opened reply value =
       let event = events.Called caller (calls.Get key) now a.reply a.value in (
-        record { opened = opened; reply_is = reply; value_is = value },
+        record { opened = opened; reply_is = λ _. reply; value_is = λ _. value },
         stripe_calm f stripe event x (released x.places prior) x.next (get_world f caller now key a.value a.reply) refl
             (places_calm f stripe event (released x.places prior) (get_world f caller now key a.value a.reply) (get_puts (world_of f) caller now key a.value a.reply)
             (calm_all stripe event (released x.places prior) (λ place. record { unused = tt; no_read = tt })) (released_all (PlaceStands f stripe) x.places prior s.places))

@@ -20,17 +20,19 @@ use Rattle.ep_model.specs.declared.data.EventData.{EventData}
 use Rattle.ep_model.specs.declared.data.EventData.TheVariants as events
 use Rattle.ep_model.specs.declared.data.FrontData.{FrontData}
 use Rattle.ep_model.specs.Config.{fit_of}
-use Rattle.ep_model.specs.World.{Doc, World, empty_world, live, live_of, is_live, secs, stored_expiry}
+use Rattle.ep_model.specs.World.{Doc, World, empty_world, live, live_of, is_live, secs, stored_expiry, doc_from}
 use Rattle.ep_model.specs.Stripes.{stripe_of}
 use Rattle.ep_model.specs.Refusals.{state_refusal, size_refusal, store_refusal, number_refusal}
+use Rattle.ep_model.specs.History.{call_effect}
 use Rattle.ep_model.specs.Answer.{Effect, Nothing, Puts, Sets, Answer, unless, cas_of, puts, stores, answer, apply}
 use Rattle.ep_model.specs.Front.{begun, world_of, with_event, marked}
 use Rattle.ep_model.specs.Legal.{IsUnused, IsBelow, May, IsLegal}
 use Rattle.ep_model.proofs.ReadBack.{get-put, get-put_other}
-use Rattle.hold_stage.specs.Mutations.{put_by, mutation_of, mutations, above, puts_on}
-use Rattle.hold_stage.proofs.Effects.{IsNext, effect_is_next}
+use Rattle.ep_model.specs.Mutations.{put_by, mutation_of, mutations, above}
+use Rattle.hold_stage.specs.Waits.{puts_on}
+use Rattle.ep_model.proofs.EffectLemmas.{IsNext, answer_is_next, call_told}
 use Rattle.hold_stage.proofs.Views.{frame_after}
-use Rattle.hold_stage.proofs.Later.{world_step, all_append}
+use Rattle.hold_stage.proofs.Later.{same_told, world_step, all_append}
 use Rattle.hold_stage.proofs.Bounds.{marked_step, legal_bounds}
 use Rattle.flat_parts.specs.declared.data.NodeData.{NodeData}
 use Rattle.flat_parts.specs.declared.data.Outcome.{Outcome}
@@ -41,7 +43,7 @@ use Rattle.flat_parts.specs.declared.data.QueueData.{QueueData}
 use Rattle.flat_parts.specs.declared.data.WriteData.{WriteData}
 use Rattle.flat_parts.specs.declared.data.Step.{Step}
 use Rattle.flat_parts.specs.declared.data.Step.TheVariants as steps
-use Rattle.flat_parts.specs.Nodes.{doc_of, node_of, node_at, put_node, released, forgotten}
+use Rattle.flat_parts.specs.Nodes.{node_of, node_at, put_node, released, forgotten}
 use Rattle.flat_parts.specs.Steps.{shown_value, shown_docs, shown_world, stripe_after, queue_after, write_step}
 use Rattle.ep_drill.specs.Stands.{ValueStands, NodeStands, IsGone, IsNoRead, IsAbsent, OutcomeStands, ticket_of, PlaceStands, StripeStands, QueueStands}
 use Rattle.ep_drill.specs.Keeps.{has_failed_later, waiting_later, mutations_step, same_table}
@@ -107,7 +109,7 @@ shown_cas : (f : FrontData) (stripe : ℕ) (x : StripeData) (key : List ℕ) (no
 shown_cas f stripe x key now None opened here s found = ap (λ (o : Option Doc). cas_of (live_of o now)) (get-empty (slice_cmp nat_cmp) key) ∙ sym (gone_cas (marked f stripe) now (get (world_of f).docs key) (s.gone opened key here found))
 shown_cas f stripe x key now (Some node) opened here s found =
     let n = s.nodes key node found in
-    let shown = doc_of node.meta (shown_value node.value) in
+    let shown = doc_from node.meta (shown_value node.value) in
     ap (λ (o : Option Doc). cas_of (live_of o now)) (get-put (empty_world 0 0) key shown)
     ∙ live_meta shown n.doc now (ap (λ (m : Meta). m.deleted) n.meta) (ap (λ (m : Meta). m.expiry) n.meta) (ap (λ (m : Meta). m.cas) n.meta)
     ∙ ap (λ (o : Option Doc). cas_of (live_of o now)) (sym n.found)
@@ -147,6 +149,7 @@ queue_same f event q world puts s = record {
   state = s.state ∙ sym (ap (λ (w : World). w.state) world);
   opened = s.opened ∙ sym (ap (λ (w : World). w.opened) world);
   table = same_table f event ∙ s.table;
+  is_told = same_told f event ∙ s.is_told;
 }
 
 -- a document was put under the key, or nothing: the parts stand behind the answered call
@@ -196,6 +199,7 @@ module _ (f : FrontData) (stripe caller now : ℕ) (key : List ℕ) (call : Call
     places = places_put x.places doc world puts s.places;
     next = below x s.next;
     closed = λ shut. absurd (let o = sym (ap (λ (w : World). w.opened) world) ∙ shut in cc);
+    is_told = same_told f event ∙ s.is_told;
   }
     where
       mark : marked (with_event f event) stripe ≡ marked f stripe
@@ -250,10 +254,11 @@ module _ (f : FrontData) (stripe caller now : ℕ) (key : List ℕ) (call : Call
         state = s.state ∙ sym (ap (λ (w : World). w.state) world);
         opened = s.opened ∙ sym (ap (λ (w : World). w.opened) world);
         table = same_table f event ∙ s.table;
+        is_told = same_told f event ∙ s.is_told;
       }
 
   -- the parts after the effect of a call on the key
-  pub effect_stands : (effect : Effect) (x : StripeData) (q : QueueData) → IsNext (world_of f) key effect → world_of (with_event f event) ≡ apply (world_of f) effect → mutation_of (world_of f) event ≡ put_by effect
+  pub effect_stands : (effect : Effect) (x : StripeData) (q : QueueData) → IsNext (world_of f) key now effect → world_of (with_event f event) ≡ apply (world_of f) effect → mutation_of (world_of f) event ≡ put_by effect
       → StripeStands f stripe x → QueueStands f q → StripeStands (with_event f event) stripe (stripe_after x effect) × QueueStands (with_event f event) (queue_after q effect)
   effect_stands Nothing x q next world puts s t = (
     stripe_calm f stripe event x x.places x.next world refl
@@ -263,7 +268,7 @@ module _ (f : FrontData) (stripe caller now : ℕ) (key : List ℕ) (call : Call
   effect_stands (Puts other doc) x q next world puts s t =
       subst (λ (k : List ℕ). StripeStands (with_event f event) stripe (stripe_after x (Puts k doc)) × QueueStands (with_event f event) (queue_after q (Puts k doc))) (sym next.0) (
         stripe_put x doc (world ∙ ap (λ (k : List ℕ). apply (world_of f) (Puts k doc)) next.0) (puts ∙ ap (λ (k : List ℕ). Some (k, doc)) next.0) s,
-        queue_put q doc (world ∙ ap (λ (k : List ℕ). apply (world_of f) (Puts k doc)) next.0) (puts ∙ ap (λ (k : List ℕ). Some (k, doc)) next.0) next.1 t,
+        queue_put q doc (world ∙ ap (λ (k : List ℕ). apply (world_of f) (Puts k doc)) next.0) (puts ∙ ap (λ (k : List ℕ). Some (k, doc)) next.0) next.1.0 t,
       )
   effect_stands (Sets state) x q next world puts s t = absurd next
 
@@ -299,11 +304,12 @@ module _ (f : FrontData) (stripe caller now fit : ℕ) (key value : List ℕ) (f
   write_done opened =
       let same = given_is opened in
       let event = events.Called caller call now given.reply [] in
+      let did : call_effect (world_of f) call now given.reply ≡ given.effect = call_told (world_of f) call now given.reply t.is_told ∙ ap (λ (a : Answer). a.effect) same in
       let stands = effect_stands f stripe caller now key call given.reply [] legal here opened given.effect kept q
-      (subst (λ (a : Answer). IsNext (world_of f) key a.effect) same (effect_is_next (world_of f) call now key refl))
-      (world_step f event ∙ ap (λ (a : Answer). apply (world_of f) a.effect) same)
-      (ap (λ (a : Answer). put_by a.effect) same) kept_stands t in (
-        record { opened = opened; reply_is = ap (λ (a : Answer). a.reply) (sym same); value_is = sym (store_value (world_of f) key value flags expiration cas now) },
+      (subst (λ (a : Answer). IsNext (world_of f) key now a.effect) same (answer_is_next (world_of f) call now key refl))
+      (world_step f event ∙ ap (λ (e : Effect). apply (world_of f) e) did)
+      (ap put_by did) kept_stands t in (
+        record { opened = opened; reply_is = λ _. ap (λ (a : Answer). a.reply) (sym same); value_is = λ _. sym (store_value (world_of f) key value flags expiration cas now) },
         stands.0,
         stands.1,
       )

@@ -88,7 +88,7 @@ core_loads core number call i within on =
     subst (λ (l : List CallerData). Interleaves (record core { callers = l })) (sym is.2) (core_loaded core number is.0 call i is.1 on)
 
 -- the same where the push may have failed, of a core that is looked at whole
-pub core_pushes : {A E : Type 0} (r : Result A E) (config : Config) (world : WorldData Part) (benches : List Bench) (old new : List Caller) (now : CoreData) (i : ℕ) (loaded : Loaded) → Interleaves (core_data config world benches old)
+pub core_pushes : {K : Type 0} {A E : Type 0} (r : Result A E) (config : Config) (world : WorldData Part) (benches : List (Bench K)) (old new : List Caller) (now : CoreData) (i : ℕ) (loaded : Loaded) → Interleaves (core_data config world benches old)
     → core_data config world benches old ≡ now → i < length now.callers → loaded.vb < now.config.vbuckets
     → OnOk r (map caller_data new ≡ loaded_at i (loaded_data loaded) (map caller_data old)) → OnErr r (map caller_data new ≡ map caller_data old) → Interleaves (core_data config world benches new)
 core_pushes (Ok u) config world benches old new now i loaded stands view within on ok err =
@@ -129,7 +129,7 @@ loaded_count i call [] = refl
 loaded_count zero call (caller ∷ list) = refl
 loaded_count (suc i) call (caller ∷ list) = ap suc (loaded_count i call list)
 
-pub pushed_count : {A E : Type 0} (r : Result A E) (config : Config) (world : WorldData Part) (benches : List Bench) (old new : List Caller) (now : CoreData) (i : ℕ) (loaded : Loaded) → core_data config world benches old ≡ now
+pub pushed_count : {K : Type 0} {A E : Type 0} (r : Result A E) (config : Config) (world : WorldData Part) (benches : List (Bench K)) (old new : List Caller) (now : CoreData) (i : ℕ) (loaded : Loaded) → core_data config world benches old ≡ now
     → OnOk r (map caller_data new ≡ loaded_at i (loaded_data loaded) (map caller_data old)) → OnErr r (map caller_data new ≡ map caller_data old) → (length (map caller_data new) ≡ length now.callers) × (config ≡ now.config)
 pushed_count (Ok u) config world benches old new now i loaded view ok err =
     (ap (λ (l : List CallerData). length l) ok ∙ loaded_count i (loaded_data loaded) (map caller_data old) ∙ ap (λ (c : CoreData). length c.callers) view, ap (λ (c : CoreData). c.config) view)

@@ -1,5 +1,5 @@
 -- What a step at a vBucket's bench is to its core, and what lists of steps do.
-use Rattle.std.proofs.Common.{◌≡◌, ◌<◌, inr, ℕ, ◌+◌, List, [], ◌∷◌, ◌++◌, take, get_or, length, map, slice_get, slice_set, refl, sym, ap, subst, ◌∙◌}
+use Rattle.std.proofs.Common.{◌≡◌, ◌<◌, inl, inr, ℕ, ◌+◌, List, [], ◌∷◌, ◌++◌, take, get_or, length, map, slice_get, slice_set, refl, sym, ap, subst, ◌∙◌}
 use Rattle.std.specs.Prelude.{Some, None, Result, Ok, Err, IfOk, OnErr}
 use Rattle.std.proofs.lemmas.List.{map-set, take_more}
 use Rattle.std.proofs.lemmas.Option.{slice_get-get_or}
@@ -26,12 +26,12 @@ use Rattle.ep_drill.proofs.EngineLemmas.{bench_at}
 use Rattle.ep_drill.proofs.Lists.{set_same}
 
 -- A step was made at the bench that stands at a place, which is the vBucket's number.
-module _ (old : CoreData) (config : Config) (w z : WorldData Part) (benches : List Bench) (callers : List Caller) (place vb : ℕ) (bench : Bench) (is : core_data config w benches callers ≡ old) (here : place ≡ vb) (at : slice_get benches place ≡ Some bench) where
+module _ {K : Type 0} (old : CoreData) (config : Config) (w z : WorldData Part) (benches : List (Bench K)) (callers : List Caller) (place vb : ℕ) (bench : Bench K) (is : core_data config w benches callers ≡ old) (here : place ≡ vb) (at : slice_get benches place ≡ Some bench) where
   found_first : slice_get (map bench_data benches) vb ≡ Some (bench_data bench)
   found_first = subst (λ (k : ℕ). slice_get (map bench_data benches) k ≡ Some (bench_data bench)) here (bench_at benches place bench at)
 
   -- it left this bench
-  pub benched_at : (after : Bench) (missing : CoreData → Type 0) (P : Config → Answer → WorldData Part → WorldData Part → BenchData → BenchData → Type 0) (answer : Answer) → P config answer w z (bench_data bench) (bench_data after)
+  pub benched_at : (after : Bench K) (missing : CoreData → Type 0) (P : Config → Answer → WorldData Part → WorldData Part → BenchData → BenchData → Type 0) (answer : Answer) → P config answer w z (bench_data bench) (bench_data after)
       → IsBenched old (core_data config z (slice_set benches place after) callers) vb (missing old) (P old.config) answer
   benched_at after missing P answer worked =
       let first : CoreData = core_data config w benches callers in
@@ -42,7 +42,7 @@ module _ (old : CoreData) (config : Config) (w z : WorldData Part) (benches : Li
       let done : AtBench first last vb (P config answer) = record { bench = bench_data bench; after = bench_data after; found = found_first; left = left; worked = worked } in
       subst (λ (o : CoreData). IsBenched o last vb (missing o) (P o.config) answer) is (inr done)
 
-  pub benched_ok : {E : Type 0} (after : Bench) (missing : CoreData → Type 0) (P : Config → Answer → WorldData Part → WorldData Part → BenchData → BenchData → Type 0) (result : Result Answer E)
+  pub benched_ok : {E : Type 0} (after : Bench K) (missing : CoreData → Type 0) (P : Config → Answer → WorldData Part → WorldData Part → BenchData → BenchData → Type 0) (result : Result Answer E)
       → IfOk result (λ answer. P config answer w z (bench_data bench) (bench_data after)) → IfOk result (IsBenched old (core_data config z (slice_set benches place after) callers) vb (missing old) (P old.config))
   benched_ok after missing P (Ok answer) worked = benched_at after missing P answer worked
   benched_ok after missing P (Err e) worked = tt
@@ -51,34 +51,34 @@ module _ (old : CoreData) (config : Config) (w z : WorldData Part) (benches : Li
   pub stayed_ok : {E : Type 0} (missing : CoreData → Type 0) (P : Config → Answer → WorldData Part → WorldData Part → BenchData → BenchData → Type 0) (result : Result Answer E)
       → IfOk result (λ answer. P config answer w z (bench_data bench) (bench_data bench)) → IfOk result (IsBenched old (core_data config z benches callers) vb (missing old) (P old.config))
   stayed_ok missing P result worked =
-      subst (λ (l : List Bench). IfOk result (IsBenched old (core_data config z l callers) vb (missing old) (P old.config))) (set_same benches place bench at) (benched_ok bench missing P result worked)
+      subst (λ (l : List (Bench K)). IfOk result (IsBenched old (core_data config z l callers) vb (missing old) (P old.config))) (set_same benches place bench at) (benched_ok bench missing P result worked)
 
   -- for want of memory it left the bench as it was
-  spared_first : (after : Bench) → Rested config w z → bench_data after ≡ bench_data bench → Spares (core_data config w benches callers) (core_data config z (slice_set benches place after) callers)
+  spared_first : (after : Bench K) → Rested config w z → bench_data after ≡ bench_data bench → Spares (core_data config w benches callers) (core_data config z (slice_set benches place after) callers)
   spared_first after rested same =
       let first : CoreData = core_data config w benches callers in
       let kept : map bench_data (slice_set benches place after) ≡ map bench_data benches = map-set_kept bench_data benches place after (λ x found. let e : bench ≡ x = cc in same ∙ ap bench_data e) in
       record { left = ap (λ (l : List BenchData). record first { world = z; benches = l }) kept; rested = rested }
 
-  pub spared_at : (after : Bench) → Rested config w z → bench_data after ≡ bench_data bench → Spares old (core_data config z (slice_set benches place after) callers)
+  pub spared_at : (after : Bench K) → Rested config w z → bench_data after ≡ bench_data bench → Spares old (core_data config z (slice_set benches place after) callers)
   spared_at after rested same = subst (λ (o : CoreData). Spares o (core_data config z (slice_set benches place after) callers)) is (spared_first after rested same)
 
   pub bench_is : (Q : BenchData → Type 0) → Q (bench_data bench) → BenchIs old vb Q
   bench_is Q holds = subst (λ (o : CoreData). BenchIs o vb Q) is (bench_data bench, found_first, holds)
 
-  pub benched_err : {E : Type 0} (after : Bench) (Q : BenchData → Type 0) (result : Result Answer E) → OnErr result (Rested config w z × (bench_data after ≡ bench_data bench) × Q (bench_data bench))
+  pub benched_err : {E : Type 0} (after : Bench K) (Q : BenchData → Type 0) (result : Result Answer E) → OnErr result (Rested config w z × (bench_data after ≡ bench_data bench) × Q (bench_data bench))
       → OnErr result (Spares old (core_data config z (slice_set benches place after) callers) × BenchIs old vb Q)
   benched_err after Q (Ok answer) err = tt
   benched_err after Q (Err e) err = (spared_at after err.0 err.1, bench_is Q err.2)
 
   -- the same for a merge, whose stripe is there
-  pub merge_err : {E : Type 0} (after : Bench) (stripe : ℕ) (Q : BenchData → Type 0) (result : Result Answer E) → stripe < config.stripes → OnErr result (Rested config w z × (bench_data after ≡ bench_data bench) × Q (bench_data bench))
+  pub merge_err : {E : Type 0} (after : Bench K) (stripe : ℕ) (Q : BenchData → Type 0) (result : Result Answer E) → stripe < config.stripes → OnErr result (Rested config w z × (bench_data after ≡ bench_data bench) × Q (bench_data bench))
       → OnErr result (Spares old (core_data config z (slice_set benches place after) callers) × (stripe < old.config.stripes) × BenchIs old vb Q)
   merge_err after stripe Q (Ok answer) there err = tt
   merge_err after stripe Q (Err e) there err = (spared_at after err.0 err.1, subst (λ (o : CoreData). stripe < o.config.stripes) is there, bench_is Q err.2)
 
   -- and for a read
-  pub read_err : {E : Type 0} (after : Bench) (stripe : ℕ) (result : Result Answer E)
+  pub read_err : {E : Type 0} (after : Bench K) (stripe : ℕ) (result : Result Answer E)
       → OnErr result (Rested config w z × (bench_data after ≡ bench_data bench) × ((bench_data bench).desk.doubt ≡ None) × HasWaiting (part_in w vb (Stripe stripe)))
       → OnErr result (Spares old (core_data config z (slice_set benches place after) callers) × BenchIs old vb (λ b. b.desk.doubt ≡ None) × HasWaiting (part_in old.world vb (Stripe stripe)))
   read_err after stripe (Ok answer) err = tt
@@ -86,11 +86,11 @@ module _ (old : CoreData) (config : Config) (w z : WorldData Part) (benches : Li
       (spared_at after err.0 err.1, bench_is (λ b. b.desk.doubt ≡ None) err.2, subst (λ (o : CoreData). HasWaiting (part_in o.world vb (Stripe stripe))) is err.3)
 
 -- For want of memory no bench was touched.
-pub spared_world : (old : CoreData) (config : Config) (w z : WorldData Part) (benches : List Bench) (callers : List Caller) → core_data config w benches callers ≡ old → Rested config w z → Spares old (core_data config z benches callers)
+pub spared_world : {K : Type 0} (old : CoreData) (config : Config) (w z : WorldData Part) (benches : List (Bench K)) (callers : List Caller) → core_data config w benches callers ≡ old → Rested config w z → Spares old (core_data config z benches callers)
 spared_world old config w z benches callers is rested =
     subst (λ (o : CoreData). Spares o (core_data config z benches callers)) is (record { left = refl; rested = rested })
 
-pub mark_err : {E : Type 0} (old : CoreData) (config : Config) (w z : WorldData Part) (benches : List Bench) (callers : List Caller) (vb stripe : ℕ) (result : Result Answer E) → core_data config w benches callers ≡ old → vb < config.vbuckets
+pub mark_err : {K : Type 0} {E : Type 0} (old : CoreData) (config : Config) (w z : WorldData Part) (benches : List (Bench K)) (callers : List Caller) (vb stripe : ℕ) (result : Result Answer E) → core_data config w benches callers ≡ old → vb < config.vbuckets
     → stripe < config.stripes → OnErr result (Rested config w z) → OnErr result (Spares old (core_data config z benches callers) × (vb < old.config.vbuckets) × (stripe < old.config.stripes))
 mark_err old config w z benches callers vb stripe (Ok answer) is low within err = tt
 mark_err old config w z benches callers vb stripe (Err e) is low within err =
@@ -98,7 +98,7 @@ mark_err old config w z benches callers vb stripe (Err e) is low within err =
     (spared_world old config w z benches callers is err, subst (λ (k : Config). vb < k.vbuckets) layout low, subst (λ (k : Config). stripe < k.stripes) layout within)
 
 -- the pager was at a stripe
-pub paged_at : (old : CoreData) (config : Config) (w z : WorldData Part) (benches : List Bench) (callers : List Caller) (vb stripe : ℕ) (paged : Paged) → core_data config w benches callers ≡ old → Moved config vb None w z
+pub paged_at : {K : Type 0} (old : CoreData) (config : Config) (w z : WorldData Part) (benches : List (Bench K)) (callers : List Caller) (vb stripe : ℕ) (paged : Paged) → core_data config w benches callers ≡ old → Moved config vb None w z
     → IsPaged (part_in w vb (Stripe stripe)) (part_in z vb (Stripe stripe)) paged → KeptBut config (is_stripe stripe) (part_in w vb) (part_in z vb) → WasPaged old (core_data config z benches callers) vb stripe paged
 paged_at old config w z benches callers vb stripe paged is moved done kept =
     subst (λ (o : CoreData). WasPaged o (core_data config z benches callers) vb stripe paged) is (record { left = refl; moved = moved; done = done; kept = kept })
@@ -124,3 +124,21 @@ pub ran_some : (old last new : CoreData) (steps : List StepChoice) (said : List 
     → RanSome old new steps
 ran_some old last new steps said n other within ran err =
     record { made = n; said = said; last = last; ran = ran; wanting = inr (get_or steps n other, slice_get-get_or steps n other within, err.1); spares = err.0 }
+
+-- no step was made
+ran_nothing : (old new : CoreData) (steps : List StepChoice) → new ≡ old → Ran old new (take 0 steps) []
+ran_nothing old new [] is = is
+ran_nothing old new (choice ∷ steps) is = is
+
+-- and none answered
+pub ran_said : (core : CoreData) (said : List Answer) → said ≡ [] → Ran core core [] said
+ran_said core [] is = refl
+ran_said core (answer ∷ said) is = absurd (cc)
+
+spares_same : (core : CoreData) → Interleaves core → Spares core core
+spares_same core i = record { left = refl; rested = record { ready = i.ready; fronts = λ u. refl; parts = λ u p. refl } }
+
+-- and for the first one memory was wanting
+pub ran_none : (old new : CoreData) (steps : List StepChoice) → new ≡ old → Interleaves new → RanSome old new steps
+ran_none old new steps is i =
+    record { made = 0; said = []; last = new; ran = ran_nothing old new steps is; wanting = inl refl; spares = spares_same new i }

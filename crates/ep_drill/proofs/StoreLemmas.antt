@@ -4,59 +4,41 @@ use Rattle.std.specs.Prelude.{Option, Some, None, ◌==◌, ◌||◌, ◌&&◌, 
 use Rattle.std.specs.List.{AllByRecursion}
 use Rattle.std.specs.FinMap.{get}
 use Rattle.std.proofs.lemmas.Bool.Decides.{Decides-eqb}
-use Rattle.ep_model.specs.Needs.{key_of}
+use Rattle.ep_model.specs.Calls.{key_of}
 use Rattle.ep_model.specs.declared.config.Eviction.TheVariants.{Value}
 use Rattle.ep_model.specs.declared.event.Ticket.{Ticket}
 use Rattle.ep_model.specs.declared.data.EventData.{EventData}
 use Rattle.ep_model.specs.declared.data.EventData.TheVariants as events
 use Rattle.ep_model.specs.declared.data.FrontData.{FrontData}
 use Rattle.ep_model.specs.World.{Doc, Docs, World}
-use Rattle.ep_model.specs.Answer.{Effect, Nothing, Puts, Sets, answer, apply}
 use Rattle.ep_model.specs.History.{step, upto}
 use Rattle.ep_model.specs.Front.{begun, started, world_of, with_event}
 use Rattle.ep_model.specs.Legal.{IsBelow, IsNoFault, HasAsked, May, IsLegal}
 use Rattle.hold_stage.specs.Touches.{is_desks}
-use Rattle.hold_stage.specs.Mutations.{mutation_of, mutations, above, laid_on, is_on, puts_on, is_ask, is_waiting, waits_after}
-use Rattle.hold_stage.proofs.Later.{world_step, all_append}
+use Rattle.ep_model.specs.Mutations.{mutation_of, mutations, above, laid_on}
+use Rattle.hold_stage.specs.Waits.{is_on, puts_on, is_ask, is_waiting, waits_after}
+use Rattle.hold_stage.proofs.Later.{same_told, world_step, all_append}
 use Rattle.hold_stage.proofs.Legality.{has_more, one_asker}
 use Rattle.hold_stage.proofs.Bounds.{legal_bounds, all_in, waiting_step}
-use Rattle.hold_stage.proofs.Mutations.{step_rises}
-use Rattle.hold_stage.proofs.Stored.{upto_last, laid_above, doc_upto}
 use Rattle.hold_stage.proofs.Mutations.{upto_append}
+use Rattle.hold_stage.proofs.Stored.{upto_last, laid_above, doc_upto}
 use Rattle.kv_keeper.specs.declared.data.BatchData.{BatchData}
-use Rattle.kv_keeper.specs.Content.{Content}
+use Rattle.kv_keeper.specs.declared.data.DeskData.{DeskData}
+use Rattle.kv_keeper.specs.Content.{Content, KeeperData}
+use Rattle.kv_keeper.specs.Desk.{with_keeper_faults}
 use Rattle.kv_keeper.specs.Batch.{laid}
 use Rattle.flat_parts.specs.declared.data.QueueData.{QueueData}
+use Rattle.hold_stage.proofs.DeskLemmas.{persisted_same}
+use Rattle.hold_stage.proofs.RisesLemmas.{high_rises, opened_stays}
 use Rattle.ep_drill.specs.declared.data.FetchedData.{FetchedData}
 use Rattle.ep_drill.specs.declared.data.FoundData.{FoundData}
 use Rattle.ep_drill.specs.declared.data.FoundData.TheVariants as founds
-use Rattle.ep_drill.specs.Stands.{QueueStands, IsAbsent, IsFaultWithin, HoldsAt, ContentStands, DeskStands, BatchStands, FoundStands, FetchedStands}
+use Rattle.ep_drill.specs.Stands.{QueueStands, IsAbsent, IsFaultWithin, HoldsAt, HoldsIfTold, ContentStands, DeskStands, BatchStands, FoundStands, FetchedStands}
 use Rattle.ep_drill.proofs.WaitLemmas.{and_left, and_right, not_true, docs_apart, waiting_low}
-
--- numbers of a front, one event further
-pub high_rises : (f : FrontData) (event : EventData) → (world_of f).high ≤ (world_of (with_event f event)).high
-high_rises f event = let a = (step_rises (world_of f) event).low in let e = ap (λ (w : World). w.high) (world_step f event) in omega arith
 
 -- what was there at a number of a front is there at it later
 pub upto_step : (f : FrontData) (event : EventData) (number : ℕ) → (started f.start).high ≤ number → number ≤ (world_of f).high → upto (begun f) (with_event f event).events number ≡ upto (begun f) f.events number
 upto_step f event number low top = upto_append (begun f) f.events (event ∷ []) number low top
-
-persisted_apply : (w : World) (effect : Effect) → (apply w effect).persisted ≡ w.persisted
-persisted_apply w Nothing = refl
-persisted_apply w (Puts key doc) = refl
-persisted_apply w (Sets state) = refl
-
--- an event that isn't the desk's leaves what is persisted, and tells of no failed read
-persisted_same : (w : World) (event : EventData) → is_desks event ≡ false → (step w event).persisted ≡ w.persisted
-unfolding is_desks
-persisted_same w (events.Called caller call now reply value) test = persisted_apply w (answer w call now).effect
-persisted_same w (events.Refused caller call now cause) test = refl
-persisted_same w (events.Expired key now) test = refl
-persisted_same w (events.Persisted number) test = absurd (cc)
-persisted_same w (events.Marked stripe number) test = refl
-persisted_same w (events.Asked ticket caller call) test = refl
-persisted_same w (events.ReadFailed ticket fault) test = absurd (cc)
-persisted_same w events.Opened test = absurd (cc)
 
 within_same : (faults : ℕ) (event : EventData) → is_desks event ≡ false → IsFaultWithin faults event
 unfolding is_desks
@@ -83,26 +65,38 @@ no_fault_same fault events.Opened test = tt
 holds_later : (f : FrontData) (event : EventData) (content : Content) (number : ℕ) → (started f.start).high ≤ number → number ≤ (world_of f).high → HoldsAt f content number → HoldsAt (with_event f event) content number
 holds_later f event content number low top h =
     let same = upto_step f event number low top in
-    record { docs = h.docs ∙ ap (λ (w : World). w.docs) (sym same); high = h.high; maxcas = h.maxcas ∙ ap (λ (w : World). w.maxcas) (sym same) }
+    record { docs = h.docs ∙ ap (λ (w : World). w.docs) (sym same); version = h.version; high = h.high; maxcas = h.maxcas ∙ ap (λ (w : World). w.maxcas) (sym same) }
 
-content_later : (f : FrontData) (event : EventData) (content : Content) (stored : ℕ) (doubt : Option ℕ) → (started f.start).high ≤ stored → stored ≤ (world_of f).high → ContentStands f content stored doubt → ContentStands (with_event f event) content stored doubt
-content_later f event content stored None low top h = holds_later f event content stored low top h
-content_later f event content stored (Some doubt) low top h =
+told_later : (f : FrontData) (event : EventData) (content : Option Content) (number : ℕ) → (started f.start).high ≤ number → number ≤ (world_of f).high → HoldsIfTold f content number → HoldsIfTold (with_event f event) content number
+told_later f event None number low top h = tt
+told_later f event (Some content) number low top h = holds_later f event content number low top h
+
+content_later : (f : FrontData) (event : EventData) (keeper : KeeperData) (stored : ℕ) (doubt : Option ℕ) → (started f.start).high ≤ stored → stored ≤ (world_of f).high → ContentStands f keeper stored doubt → ContentStands (with_event f event) keeper stored doubt
+content_later f event keeper stored None low top h = told_later f event keeper.content stored low top h
+content_later f event keeper stored (Some doubt) low top h =
     let more = high_rises f event in let a = h.0 in let b = h.1 in
-    (a, omega arith, elim h.2 [ inl x ↦ inl (holds_later f event content stored low top x) | inr y ↦ inr (holds_later f event content doubt (omega arith) b y) ])
+    let up : (started f.start).high ≤ doubt = omega arith in (
+      a,
+      omega arith,
+      elim h.2 [
+        | inl x ↦ inl (told_later f event keeper.content stored low top x.0, told_later f event keeper.second doubt up b x.1)
+        | inr y ↦ inr (told_later f event keeper.content doubt up b y.0, told_later f event keeper.second stored low top y.1)
+      ],
+    )
 
 -- a desk goes on standing while others note what isn't the desk's
-pub desk_keeps_standing : (f : FrontData) (event : EventData) (content : Content) (stored : ℕ) (doubt : Option ℕ) (noted faults : ℕ) → IsLegal f → is_desks event ≡ false → DeskStands f content stored doubt noted faults → DeskStands (with_event f event) content stored doubt noted faults
-desk_keeps_standing f event content stored doubt noted faults legal test d =
+pub desk_keeps_standing : (f : FrontData) (event : EventData) (desk : DeskData) → IsLegal f → is_desks event ≡ false → DeskStands f desk → DeskStands (with_event f event) desk
+desk_keeps_standing f event desk legal test d =
     let p = ap (λ (w : World). w.persisted) (world_step f event) ∙ persisted_same (world_of f) event test in
     let b = legal_bounds f legal in
     let low = d.low in let start = b.start in
     record {
       low = omega arith;
       top = let h = high_rises f event in let t = d.top in omega arith;
-      holds = content_later f event content stored doubt (omega arith) d.top d.holds;
+      holds = content_later f event desk.keeper desk.stored desk.doubt (omega arith) d.top d.holds;
       persisted = d.persisted ∙ sym p;
-      told = all_append (IsFaultWithin faults) f.events (event ∷ []) d.told (within_same faults event test, tt);
+      told = all_append (IsFaultWithin desk.read_faults) f.events (event ∷ []) d.told (within_same desk.read_faults event test, tt);
+      is_told = same_told f event ∙ d.is_told;
     }
 
 -- more faults than were told are enough
@@ -116,17 +110,28 @@ within_more a b (events.Asked ticket caller call) le h = tt
 within_more a b (events.ReadFailed ticket fault) le h = (h.0, (let x = h.1 in omega arith))
 within_more a b events.Opened le h = tt
 
-all_within_more : (a b : ℕ) (list : List EventData) → a ≤ b → AllByRecursion (IsFaultWithin a) list → AllByRecursion (IsFaultWithin b) list
+pub all_within_more : (a b : ℕ) (list : List EventData) → a ≤ b → AllByRecursion (IsFaultWithin a) list → AllByRecursion (IsFaultWithin b) list
 all_within_more a b [] le h = tt
 all_within_more a b (event ∷ list) le h = (within_more a b event le h.0, all_within_more a b list le h.1)
 
-pub more_faults : (f : FrontData) (content : Content) (stored : ℕ) (doubt : Option ℕ) (noted a b : ℕ) → a ≤ b → DeskStands f content stored doubt noted a → DeskStands f content stored doubt noted b
-more_faults f content stored doubt noted a b le d = record { low = d.low; top = d.top; holds = d.holds; persisted = d.persisted; told = all_within_more a b f.events le d.told }
+faults_hold : (f : FrontData) (keeper : KeeperData) (faults stored : ℕ) (doubt : Option ℕ) → ContentStands f keeper stored doubt → ContentStands f (record keeper { faults = faults }) stored doubt
+faults_hold f keeper faults stored None h = h
+faults_hold f keeper faults stored (Some doubt) h = h
+
+-- a desk whose keeper failed once more stands
+pub more_faults : (f : FrontData) (desk : DeskData) (faults read_faults : ℕ) → desk.read_faults ≤ read_faults → DeskStands f desk → DeskStands f (record (with_keeper_faults desk faults) { read_faults = read_faults })
+more_faults f desk faults read_faults le d = record {
+  low = d.low;
+  top = d.top;
+  holds = faults_hold f desk.keeper faults desk.stored desk.doubt d.holds;
+  persisted = d.persisted;
+  told = all_within_more desk.read_faults read_faults f.events le d.told;
+  is_told = d.is_told;
+}
 
 -- the desk tells of a failed read
-pub desk_tells : (f : FrontData) (ticket : Ticket) (fault : ℕ) (content : Content) (stored : ℕ) (doubt : Option ℕ) (noted faults : ℕ) → IsLegal f → 1 ≤ fault → fault ≤ faults → DeskStands f content stored doubt noted faults
-    → DeskStands (with_event f (events.ReadFailed ticket fault)) content stored doubt noted faults
-desk_tells f ticket fault content stored doubt noted faults legal some within d =
+pub desk_tells : (f : FrontData) (ticket : Ticket) (fault : ℕ) (desk : DeskData) → IsLegal f → 1 ≤ fault → fault ≤ desk.read_faults → DeskStands f desk → DeskStands (with_event f (events.ReadFailed ticket fault)) desk
+desk_tells f ticket fault desk legal some within d =
     let event = events.ReadFailed ticket fault in
     let p = ap (λ (w : World). w.persisted) (world_step f event) in
     let b = legal_bounds f legal in
@@ -134,37 +139,22 @@ desk_tells f ticket fault content stored doubt noted faults legal some within d 
     record {
       low = omega arith;
       top = let h = high_rises f event in let t = d.top in omega arith;
-      holds = content_later f event content stored doubt (omega arith) d.top d.holds;
+      holds = content_later f event desk.keeper desk.stored desk.doubt (omega arith) d.top d.holds;
       persisted = d.persisted ∙ sym p;
-      told = all_append (IsFaultWithin faults) f.events (event ∷ []) d.told ((some, within), tt);
+      told = all_append (IsFaultWithin desk.read_faults) f.events (event ∷ []) d.told ((some, within), tt);
+      is_told = same_told f event ∙ d.is_told;
     }
 
-opened_step : (w : World) (event : EventData) → w.opened ≡ true → (step w event).opened ≡ true
-opened_step w (events.Called caller call now reply value) h = at w (answer w call now).effect h
-  where
-    at : (w : World) (effect : Effect) → w.opened ≡ true → (apply w effect).opened ≡ true
-    at w Nothing h = h
-    at w (Puts key doc) h = h
-    at w (Sets state) h = h
-opened_step w (events.Refused caller call now cause) h = h
-opened_step w (events.Expired key now) h = h
-opened_step w (events.Persisted number) h = h
-opened_step w (events.Marked stripe number) h = h
-opened_step w (events.Asked ticket caller call) h = h
-opened_step w (events.ReadFailed ticket fault) h = h
-opened_step w events.Opened h = refl
-
-pub opened_stays : (f : FrontData) (event : EventData) → (world_of f).opened ≡ true → (world_of (with_event f event)).opened ≡ true
-opened_stays f event h = ap (λ (w : World). w.opened) (world_step f event) ∙ opened_step (world_of f) event h
-
--- so does a batch, over the same store
-pub batch_keeps : (f : FrontData) (event : EventData) (stored : ℕ) (batch : BatchData) → (started f.start).high ≤ stored → BatchStands f stored batch → BatchStands (with_event f event) stored batch
-batch_keeps f event stored batch start b =
+-- so does a batch, over the same store, where the event leaves what is persisted
+pub batch_keeps : (f : FrontData) (event : EventData) (stored : ℕ) (batch : BatchData) → (started f.start).high ≤ stored → (step (world_of f) event).persisted ≡ (world_of f).persisted → BatchStands f stored batch → BatchStands (with_event f event) stored batch
+batch_keeps f event stored batch start same b =
     let low = b.low in let top = b.top in
+    let p = ap (λ (w : World). w.persisted) (world_step f event) ∙ same in
     let at = upto_step f event stored start (omega arith) in
     let to = upto_step f event batch.to (omega arith) top in
     record {
       opened = opened_stays f event b.opened;
+      above = let more = b.above in omega arith;
       low = low;
       top = let h = high_rises f event in omega arith;
       docs = ap (λ (w : World). laid batch.rows w.docs) at ∙ b.docs ∙ ap (λ (w : World). w.docs) (sym to);
@@ -222,22 +212,28 @@ fetched_keeps f event fetched may apart r = record {
 }
 
 -- at a ticket one key waits
-pub one_key : (f : FrontData) (ticket : Ticket) (a b : List ℕ) → IsLegal f → f.config.eviction ≡ Value → is_waiting f ticket a ≡ true → is_waiting f ticket b ≡ true → a ≡ b
-one_key f ticket a b legal eviction p q =
-    let x = waiting_low f ticket a legal eviction p in
-    let y = waiting_low f ticket b legal eviction q in
+pub one_key : (f : FrontData) (ticket : Ticket) (a b : List ℕ) → (world_of f).told ≡ true → IsLegal f → f.config.eviction ≡ Value → is_waiting f ticket a ≡ true → is_waiting f ticket b ≡ true → a ≡ b
+one_key f ticket a b told legal eviction p q =
+    let x = waiting_low f ticket a told legal eviction p in
+    let y = waiting_low f ticket b told legal eviction q in
     let calls = (one_asker f ticket x.caller y.caller x.call y.call x.before y.before x.later y.later legal x.asked y.asked).1 in
     let keys : Some a ≡ Some b = sym x.keyed ∙ ap key_of calls ∙ y.keyed in
     cc
 
+-- what a store that isn't in doubt holds, where it tells that
+sure_holds : (f : FrontData) (keeper : KeeperData) (content : Content) (stored : ℕ) (doubt : Option ℕ) → doubt ≡ None → keeper.content ≡ Some content → ContentStands f keeper stored doubt → HoldsAt f content stored
+sure_holds f keeper content stored doubt sure told h =
+    let here : ContentStands f keeper stored None = subst (λ (o : Option ℕ). ContentStands f keeper stored o) sure h in
+    subst (λ (o : Option Content). HoldsIfTold f o stored) told here
+
 -- what the store holds of a key that waits is its document
-pub waiting_stored : (f : FrontData) (ticket : Ticket) (key : List ℕ) (content : Content) (stored noted faults : ℕ) → IsLegal f → f.config.eviction ≡ Value → DeskStands f content stored None noted faults → is_waiting f ticket key ≡ true
+pub waiting_stored : (f : FrontData) (ticket : Ticket) (key : List ℕ) (desk : DeskData) (content : Content) → IsLegal f → f.config.eviction ≡ Value → desk.doubt ≡ None → desk.keeper.content ≡ Some content → DeskStands f desk → is_waiting f ticket key ≡ true
     → (doc : Doc) × (get content.docs key ≡ Some doc) × (get (world_of f).docs key ≡ Some doc) × (doc.deleted ≡ false)
-waiting_stored f ticket key content stored noted faults legal eviction d is =
-    let l = waiting_low f ticket key legal eviction is in
+waiting_stored f ticket key desk content legal eviction sure told d is =
+    let l = waiting_low f ticket key d.is_told legal eviction is in
     let b = legal_bounds f legal in
     let m = b.marked ticket.stripe in let low = l.low in let s = d.low in
-    (l.doc, ap (λ (docs : Docs). get docs key) d.holds.docs ∙ doc_upto (begun f) f.events stored key l.doc l.found (omega arith), l.found, l.stays)
+    (l.doc, ap (λ (docs : Docs). get docs key) (sure_holds f desk.keeper content desk.stored desk.doubt sure told d.holds).docs ∙ doc_upto (begun f) f.events desk.stored key l.doc l.found (omega arith), l.found, l.stays)
 
 -- What is to be stored makes a batch that stands.
 pub batch_taken : (f : FrontData) (q : QueueData) (batch : BatchData) (stored : ℕ) → IsLegal f → QueueStands f q → (world_of f).opened ≡ true → stored ≡ (world_of f).persisted → stored < q.high → batch.to ≡ q.high → batch.maxcas ≡ q.maxcas
@@ -249,6 +245,7 @@ batch_taken f q batch stored legal s opened is more to maxcas laid-is =
     let at : batch.to ≡ (world_of f).high = to ∙ s.high in
     record {
       opened = opened;
+      above = let e = to in omega arith;
       low = let e = to in omega arith;
       top = omega arith;
       docs =
@@ -260,18 +257,18 @@ batch_taken f q batch stored legal s opened is more to maxcas laid-is =
     }
 
 -- the key of a read is that of whoever waits at its ticket
-pub fetched_key : (f : FrontData) (fetched : FetchedData) (key : List ℕ) → IsLegal f → f.config.eviction ≡ Value → FetchedStands f fetched → is_waiting f fetched.ticket key ≡ true → key ≡ fetched.key
-fetched_key f fetched key legal eviction r is =
-    let x = waiting_low f fetched.ticket key legal eviction is in
+pub fetched_key : (f : FrontData) (fetched : FetchedData) (key : List ℕ) → (world_of f).told ≡ true → IsLegal f → f.config.eviction ≡ Value → FetchedStands f fetched → is_waiting f fetched.ticket key ≡ true → key ≡ fetched.key
+fetched_key f fetched key told legal eviction r is =
+    let x = waiting_low f fetched.ticket key told legal eviction is in
     let calls = (one_asker f fetched.ticket x.caller r.asked.caller x.call r.asked.call x.before r.asked.before x.later r.asked.later legal x.asked r.asked.asked).1 in
     let keys : Some key ≡ Some fetched.key = sym x.keyed ∙ ap key_of calls ∙ r.keyed in
     cc
 
 -- whoever waits at a ticket asked there
-pub fetched_any : (f : FrontData) (ticket : Ticket) (key : List ℕ) (fetched : FetchedData) → IsLegal f → f.config.eviction ≡ Value → is_waiting f ticket key ≡ true → fetched.ticket ≡ ticket → fetched.key ≡ key
+pub fetched_any : (f : FrontData) (ticket : Ticket) (key : List ℕ) (fetched : FetchedData) → (world_of f).told ≡ true → IsLegal f → f.config.eviction ≡ Value → is_waiting f ticket key ≡ true → fetched.ticket ≡ ticket → fetched.key ≡ key
     → FoundStands f fetched.ticket fetched.found → FetchedStands f fetched
-fetched_any f ticket key fetched legal eviction is t k found =
-    let l = waiting_low f ticket key legal eviction is in
+fetched_any f ticket key fetched told legal eviction is t k found =
+    let l = waiting_low f ticket key told legal eviction is in
     record {
       asked = record { before = l.before; later = l.later; caller = l.caller; call = l.call; asked = l.asked ∙ ap (λ (x : Ticket). l.before ++ events.Asked x l.caller l.call ∷ l.later) (sym t) };
       keyed = l.keyed ∙ ap Some (sym k);
@@ -279,9 +276,9 @@ fetched_any f ticket key fetched legal eviction is t k found =
     }
 
 -- a read of the store for whoever waits at a ticket stands
-pub fetched_row : (f : FrontData) (ticket : Ticket) (key : List ℕ) (doc : Doc) (fetched : FetchedData) → IsLegal f → f.config.eviction ≡ Value → is_waiting f ticket key ≡ true → get (world_of f).docs key ≡ Some doc
+pub fetched_row : (f : FrontData) (ticket : Ticket) (key : List ℕ) (doc : Doc) (fetched : FetchedData) → (world_of f).told ≡ true → IsLegal f → f.config.eviction ≡ Value → is_waiting f ticket key ≡ true → get (world_of f).docs key ≡ Some doc
     → fetched.ticket ≡ ticket → fetched.key ≡ key → fetched.found ≡ founds.Row doc → FetchedStands f fetched
-fetched_row f ticket key doc fetched legal eviction is found t k r =
-    fetched_any f ticket key fetched legal eviction is t k
+fetched_row f ticket key doc fetched told legal eviction is found t k r =
+    fetched_any f ticket key fetched told legal eviction is t k
     (subst (λ (o : FoundData). FoundStands f fetched.ticket o) (sym r) (λ other waits.
-    ap (λ (l : List ℕ). get (world_of f).docs l) (one_key f ticket other key legal eviction (subst (λ (x : Ticket). is_waiting f x other ≡ true) t waits) is) ∙ found))
+    ap (λ (l : List ℕ). get (world_of f).docs l) (one_key f ticket other key told legal eviction (subst (λ (x : Ticket). is_waiting f x other ≡ true) t waits) is) ∙ found))

@@ -1,11 +1,11 @@
 -- A core goes on from step to step: what a caller's turn leaves of it, and what many steps do.
-use Rattle.std.proofs.Common.{◌≡◌, ◌<◌, ◌≤◌, ◌^◌, ℕ, zero, suc, inl, inr, List, [], ◌∷◌, ◌++◌, map, slice_get, slice_set, refl, sym, ap, subst, ◌∙◌, arith}
+use Rattle.std.proofs.Common.{◌≡◌, ◌<◌, ◌≤◌, ◌^◌, ℕ, zero, suc, inl, inr, List, [], ◌∷◌, ◌++◌, length, map, slice_get, slice_set, refl, sym, ap, subst, ◌∙◌, arith}
 use Rattle.std.specs.Prelude.{Option, Some, None, IsSome, Result, Ok, Err, IfOk, OnErr}
 use Rattle.std.specs.Option.{option_map}
 use Rattle.std.specs.List.{AllByRecursion}
 use Rattle.std.proofs.lemmas.Bool.{cases_eq}
 use Rattle.std.proofs.lemmas.List.{append-nil, append_assoc, map-set}
-use Rattle.std.proofs.lemmas.Option.{slice_get-map}
+use Rattle.std.proofs.lemmas.Option.{slice_get-map, slice_get_past}
 use Rattle.vb_world.proofs.Lists.{map-set_kept}
 use Rattle.ep_drill.proofs.Lists.{set_same}
 use Rattle.ep_model.specs.declared.config.Config.{Config}
@@ -22,7 +22,8 @@ use Rattle.ep_drill.specs.declared.data.CallerData.{CallerData}
 use Rattle.ep_drill.specs.declared.data.CoreData.{CoreData}
 use Rattle.flat_parts.specs.declared.data.Step.{Step}
 use Rattle.ep_drill.specs.Parts.{part_stands}
-use Rattle.ep_drill.specs.Calls.{event_of, noted}
+use Rattle.hold_stage.specs.Went.{noted}
+use Rattle.ep_drill.specs.Calls.{event_of}
 use Rattle.ep_drill.specs.Callers.{CallerStands, caller_data, loaded_data, next_of, after_step, tried_of}
 use Rattle.ep_drill.specs.Core.{IsOn, Ready, Moved, Rested, Turned, Interleaves, Continues, GoesOn, calls_of, core_data}
 use Rattle.ep_drill.specs.Stepped.{WasTried, IsFronted, IsIdle, Spares, answer_of}
@@ -110,7 +111,7 @@ module _ (core : CoreData) (z : WorldData Part) (number : ℕ) (caller after : C
   turned_data now value (Err e) ok err = turned_err err.0 err.1
 
 -- A caller's turn: the core is as it should be, and goes on.
-pub turned_core : {E : Type 0} (config : Config) (w z : WorldData Part) (benches : List Bench) (callers : List Caller) (number now : ℕ) (caller after : Caller) (value : List ℕ) (result : Result (Option Step) E)
+pub turned_core : {K : Type 0} {E : Type 0} (config : Config) (w z : WorldData Part) (benches : List (Bench K)) (callers : List Caller) (number now : ℕ) (caller after : Caller) (value : List ℕ) (result : Result (Option Step) E)
     → Interleaves (core_data config w benches callers) → slice_get callers number ≡ Some caller → IfOk result (Turned config number now w z (caller_data caller) (caller_data after) value)
     → OnErr result (Rested config w z × (caller_data after ≡ caller_data caller) × IsSome (next_of (caller_data caller))) → Sound part_stands z
     → Interleaves (core_data config z benches (slice_set callers number after)) × GoesOn (core_data config w benches callers) (core_data config z benches (slice_set callers number after))
@@ -121,7 +122,7 @@ turned_core config w z benches callers number now caller after value result i at
     (turned_data core z number (caller_data caller) (caller_data after) i (get_told caller_data callers number caller at) sound now value result ok err)
 
 -- The same as a function has it: the caller stands at a place that is its number, and the core before is told by its fields.
-pub turned_at : {E : Type 0} (old : CoreData) (config : Config) (w z : WorldData Part) (benches : List Bench) (callers : List Caller) (place number told now : ℕ) (caller after : Caller) (value : List ℕ)
+pub turned_at : {K : Type 0} {E : Type 0} (old : CoreData) (config : Config) (w z : WorldData Part) (benches : List (Bench K)) (callers : List Caller) (place number told now : ℕ) (caller after : Caller) (value : List ℕ)
     (result : Result (Option Step) E) → core_data config w benches callers ≡ old → place ≡ told → number ≡ told
     → Interleaves (core_data config w benches callers) → slice_get callers place ≡ Some caller → IfOk result (Turned config number now w z (caller_data caller) (caller_data after) value)
     → OnErr result (Rested config w z × (caller_data after ≡ caller_data caller) × IsSome (next_of (caller_data caller))) → Sound part_stands z
@@ -133,7 +134,7 @@ turned_at old config w z benches callers place number told now caller after valu
     (turned_core config w z benches callers number now caller after value result i (subst (λ (k : ℕ). slice_get callers k ≡ Some caller) same at) ok err sound))
 
 -- what a core keeps of the caller whose turn it is
-pub caller_of : (config : Config) (w : WorldData Part) (benches : List Bench) (callers : List Caller) (place number told : ℕ) (caller : Caller) → place ≡ told → number ≡ told
+pub caller_of : {K : Type 0} (config : Config) (w : WorldData Part) (benches : List (Bench K)) (callers : List Caller) (place number told : ℕ) (caller : Caller) → place ≡ told → number ≡ told
     → Interleaves (core_data config w benches callers) → slice_get callers place ≡ Some caller → CallerStands (front_in w) number (caller_data caller) × AllByRecursion (IsOn config) (caller_data caller).calls
 caller_of config w benches callers place number told caller here its i at =
     let stands : CallerStands (front_in w) place (caller_data caller) = i.callers place (caller_data caller) (get_told caller_data callers place caller at) in
@@ -148,14 +149,14 @@ callers_kept : (callers : List Caller) (place : ℕ) (caller after : Caller) →
 callers_kept callers place caller after at same = map-set_kept caller_data callers place after (λ x found. let e : caller ≡ x = cc in same ∙ ap caller_data e)
 
 -- where a caller that a core has was told to be at a place, it is there
-caller_told : (old : CoreData) (config : Config) (w : WorldData Part) (benches : List Bench) (callers : List Caller) (place told : ℕ) (caller : Caller) → core_data config w benches callers ≡ old → place ≡ told
+caller_told : {K : Type 0} (old : CoreData) (config : Config) (w : WorldData Part) (benches : List (Bench K)) (callers : List Caller) (place told : ℕ) (caller : Caller) → core_data config w benches callers ≡ old → place ≡ told
     → slice_get callers place ≡ Some caller → slice_get old.callers told ≡ Some (caller_data caller)
 caller_told old config w benches callers place told caller is here at =
     subst (λ (k : ℕ). slice_get old.callers k ≡ Some (caller_data caller)) here
     (subst (λ (o : CoreData). slice_get o.callers place ≡ Some (caller_data caller)) is (get_told caller_data callers place caller at))
 
 -- what a core answers of a caller's turn
-pub fronted_at : {E : Type 0} (old : CoreData) (config : Config) (w z : WorldData Part) (benches : List Bench) (callers : List Caller) (place number told now : ℕ) (caller after : Caller) (value : List ℕ)
+pub fronted_at : {K : Type 0} {E : Type 0} (old : CoreData) (config : Config) (w z : WorldData Part) (benches : List (Bench K)) (callers : List Caller) (place number told now : ℕ) (caller after : Caller) (value : List ℕ)
     (result : Result (Option Step) E) → core_data config w benches callers ≡ old → place ≡ told → number ≡ told → slice_get callers place ≡ Some caller
     → IfOk result (Turned config number now w z (caller_data caller) (caller_data after) value) → IfOk (answer_of result) (IsFronted old (core_data config z benches (slice_set callers place after)) told now)
 fronted_at old config w z benches callers place number told now caller after value (Err e) is here its at ok = tt
@@ -201,7 +202,7 @@ not_idle old number now caller at some early (NoCall other found none) =
 not_idle old number now caller at some early (NoMoment late) = not_before (2 ^ 62) now late early
 
 -- Where memory was wanting for a caller's turn nothing has changed, and there was a call to do.
-pub front_spared : {E : Type 0} (old : CoreData) (config : Config) (w z : WorldData Part) (benches : List Bench) (callers : List Caller) (place told now : ℕ) (caller after : Caller) (result : Result (Option Step) E)
+pub front_spared : {K : Type 0} {E : Type 0} (old : CoreData) (config : Config) (w z : WorldData Part) (benches : List (Bench K)) (callers : List Caller) (place told now : ℕ) (caller after : Caller) (result : Result (Option Step) E)
     → core_data config w benches callers ≡ old → place ≡ told → slice_get callers place ≡ Some caller → now < 2 ^ 62
     → OnErr result (Rested config w z × (caller_data after ≡ caller_data caller) × IsSome (next_of (caller_data caller)))
     → OnErr (answer_of result) (Spares old (core_data config z benches (slice_set callers place after)) × (IsIdle old told now → ⊥))
@@ -219,3 +220,17 @@ front_spared old config w z benches callers place told now caller after (Err e) 
 -- a caller whose list has a call at the place of its next one has a next call
 pub is_next : (caller : Caller) (loaded : Loaded) → slice_get caller.calls.items caller.answered ≡ Some loaded → IsSome (next_of (caller_data caller))
 is_next caller loaded at = subst (λ (o : Option (ℕ × CallData)). IsSome o) (sym (get_told loaded_data caller.calls.items caller.answered loaded at)) refl
+
+-- there is no caller behind the last one
+pub no_caller : {K : Type 0} (old : CoreData) (config : Config) (w : WorldData Part) (benches : List (Bench K)) (callers : List Caller) (place number count : ℕ) → core_data config w benches callers ≡ old → place ≡ number → count ≡ length callers → (place < count → ⊥)
+    → slice_get old.callers number ≡ None
+no_caller old config w benches callers place number count is here all late =
+    let beyond : length callers ≤ place = omega arith in
+    subst (λ k. slice_get old.callers k ≡ None) here
+    (subst (λ (o : CoreData). slice_get o.callers place ≡ None) is (slice_get-map caller_data callers place ∙ ap (λ o. option_map caller_data o) (slice_get_past callers place beyond)))
+
+-- a core goes on whose caller was lent out and is back
+pub caller_back : {K : Type 0} (old : CoreData) (config : Config) (w : WorldData Part) (benches : List (Bench K)) (callers : List Caller) (place : ℕ) (caller : Caller) → core_data config w benches callers ≡ old → slice_get callers place ≡ Some caller
+    → GoesOn old (core_data config w benches (slice_set callers place caller))
+caller_back old config w benches callers place caller is at =
+    subst (λ (l : List Caller). GoesOn old (core_data config w benches l)) (sym (set_same callers place caller at)) (subst (λ (o : CoreData). GoesOn old o) (sym is) (goes_on_refl old))

@@ -1,5 +1,5 @@
 -- What is known of a document that somebody waits for: it was asked for once, and it is stored.
-use Rattle.std.proofs.Common.{◌≡◌, ◌≤◌, ℕ, Bool, true, false, cond, List, [], ◌∷◌, ◌++◌, refl, sym, ap, subst, ◌∙◌, arith, append-nil}
+use Rattle.std.proofs.Common.{◌≡◌, ◌≤◌, ℕ, Bool, true, false, List, [], ◌∷◌, ◌++◌, refl, sym, ap, subst, ◌∙◌, arith, append-nil}
 use Rattle.std.specs.Prelude.{Option, Some, None, ◌==◌, ◌||◌, ◌&&◌, not}
 use Rattle.std.specs.FinMap.{get}
 use Rattle.std.proofs.lemmas.Slice.Eq.{bytes_eq-Decides}
@@ -13,15 +13,18 @@ use Rattle.ep_model.specs.declared.data.EventData.TheVariants.{Called, Refused, 
 use Rattle.ep_model.specs.declared.data.FrontData.{FrontData}
 use Rattle.ep_model.specs.World.{Doc, Docs, World}
 use Rattle.ep_model.specs.History.{step}
-use Rattle.ep_model.specs.Needs.{key_of}
-use Rattle.ep_model.specs.Front.{world_of, with_event, with_events, mark_after, marked}
+use Rattle.ep_model.specs.Calls.{key_of}
+use Rattle.ep_model.specs.Front.{begun, world_of, with_event, with_events, marked}
 use Rattle.ep_model.specs.Legal.{IsAway, May, AreLegal, IsLegal}
 use Rattle.ep_model.proofs.ReadBack.{get-put_other}
-use Rattle.hold_stage.specs.Mutations.{mutation_of, is_on, puts_on, is_ask, waits_after, waits_in, is_waiting}
-use Rattle.hold_stage.proofs.Later.{world_step, more_events}
+use Rattle.ep_model.specs.Mutations.{mutation_of}
+use Rattle.hold_stage.specs.Waits.{is_on, puts_on, is_ask, waits_after, waits_in, is_waiting}
+use Rattle.hold_stage.proofs.Views.{frame_after}
+use Rattle.hold_stage.proofs.Later.{same_told, world_step, more_events}
 use Rattle.hold_stage.proofs.Legality.{has_more}
 use Rattle.hold_stage.proofs.Bounds.{marked_step}
 use Rattle.hold_stage.proofs.Mutations.{IsPut, step_is_put}
+use Rattle.hold_stage.proofs.RisesLemmas.{marked_rises}
 use Rattle.ep_drill.specs.Stands.{ticket_of}
 
 -- an event that doesn't put a key's document leaves it
@@ -33,25 +36,6 @@ docs_put v w (Some p) key put apart =
 pub docs_apart : (f : FrontData) (event : EventData) (key : List ℕ) → puts_on key (mutation_of (world_of f) event) ≡ false → get (world_of (with_event f event)).docs key ≡ get (world_of f).docs key
 docs_apart f event key apart =
     ap (λ (w : World). get w.docs key) (world_step f event) ∙ docs_put (world_of f) (step (world_of f) event) (mutation_of (world_of f) event) key (step_is_put (world_of f) event) apart
-
--- marks never fall
-mark_rises : (f : FrontData) (event : EventData) (stripe : ℕ) → May f event → marked f stripe ≤ mark_after stripe (marked f stripe) event
-unfolding May
-mark_rises f (Called caller call now reply value) stripe may = omega arith
-mark_rises f (Refused caller call now cause) stripe may = omega arith
-mark_rises f (Expired key now) stripe may = omega arith
-mark_rises f (Persisted number) stripe may = omega arith
-mark_rises f (Marked other number) stripe may =
-    elim (other == stripe) as (λ b. other == stripe ≡ b → marked f stripe ≤ cond b number (marked f stripe)) [
-      | true ↦ λ is. let h = may.above in let e = ap (λ n. marked f n) ((Decides-eqb other stripe).0 is) in omega arith
-      | false ↦ λ is. omega arith
-    ] refl
-mark_rises f (Asked ticket caller call) stripe may = omega arith
-mark_rises f (ReadFailed ticket fault) stripe may = omega arith
-mark_rises f Opened stripe may = omega arith
-
-pub marked_rises : (f : FrontData) (event : EventData) (stripe : ℕ) → May f event → marked f stripe ≤ marked (with_event f event) stripe
-marked_rises f event stripe may = let a = mark_rises f event stripe may in let b = marked_step f event stripe in omega arith
 
 -- The document of a key that waits stands, is stored, and was asked for at the ticket.
 pub record IsLow (f : FrontData) (ticket : Ticket) (key : List ℕ) : Type 0 where
@@ -90,19 +74,19 @@ same_ticket : (a b : Ticket) → a.stripe ≡ b.stripe → a.number ≡ b.number
 same_ticket a b s n = ap (λ k. ticket_of k a.number) s ∙ ap (λ k. ticket_of b.stripe k) n
 
 -- the ask itself
-low_asked : (f : FrontData) (ticket : Ticket) (key : List ℕ) (event : EventData) → f.config.eviction ≡ Value → May f event → is_ask ticket key event ≡ true → IsLow (with_event f event) ticket key
+low_asked : (f : FrontData) (ticket : Ticket) (key : List ℕ) (event : EventData) → (world_of f).told ≡ true → f.config.eviction ≡ Value → May f event → is_ask ticket key event ≡ true → IsLow (with_event f event) ticket key
 unfolding May
-low_asked f ticket key (Called caller call now reply value) eviction may is = absurd (cc)
-low_asked f ticket key (Refused caller call now cause) eviction may is = absurd (cc)
-low_asked f ticket key (Expired other now) eviction may is = absurd (cc)
-low_asked f ticket key (Persisted number) eviction may is = absurd (cc)
-low_asked f ticket key (Marked stripe number) eviction may is = absurd (cc)
-low_asked f ticket key (Asked other caller call) eviction may is =
+low_asked f ticket key (Called caller call now reply value) told eviction may is = absurd (cc)
+low_asked f ticket key (Refused caller call now cause) told eviction may is = absurd (cc)
+low_asked f ticket key (Expired other now) told eviction may is = absurd (cc)
+low_asked f ticket key (Persisted number) told eviction may is = absurd (cc)
+low_asked f ticket key (Marked stripe number) told eviction may is = absurd (cc)
+low_asked f ticket key (Asked other caller call) told eviction may is =
     let tests = and_left (other.stripe == ticket.stripe && other.number == ticket.number) (is_on key (key_of call)) is in
     let same : other ≡ ticket = same_ticket other ticket ((Decides-eqb other.stripe ticket.stripe).0 (and_left _ (other.number == ticket.number) tests)) ((Decides-eqb other.number ticket.number).0 (and_right (other.stripe == ticket.stripe) _ tests)) in
     let keyed : key_of call ≡ Some key = on_is key (key_of call) (and_right (other.stripe == ticket.stripe && other.number == ticket.number) _ is) in
     let k : may.key ≡ key = (let e = sym may.keyed ∙ keyed in cc) in
-    let a = away_low (marked f other.stripe) (get (world_of f).docs may.key) (subst (λ (e : Eviction). IsAway e (marked f other.stripe) (get (world_of f).docs may.key)) eviction may.away) in
+    let a = away_low (marked f other.stripe) (get (world_of f).docs may.key) (subst (λ (e : Eviction). IsAway e (marked f other.stripe) (get (world_of f).docs may.key)) eviction (may.away told)) in
     record {
       doc = a.0;
       found = ap (λ (w : World). get w.docs key) (world_step f (Asked other caller call)) ∙ ap (λ (l : List ℕ). get (world_of f).docs l) (sym k) ∙ a.1;
@@ -115,8 +99,8 @@ low_asked f ticket key (Asked other caller call) eviction may is =
       asked = ap (λ (t : Ticket). f.events ++ Asked t caller call ∷ []) same;
       keyed = keyed;
     }
-low_asked f ticket key (ReadFailed other fault) eviction may is = absurd (cc)
-low_asked f ticket key Opened eviction may is = absurd (cc)
+low_asked f ticket key (ReadFailed other fault) told eviction may is = absurd (cc)
+low_asked f ticket key Opened told eviction may is = absurd (cc)
 
 low_later : (f : FrontData) (ticket : Ticket) (key : List ℕ) (event : EventData) → May f event → puts_on key (mutation_of (world_of f) event) ≡ false → IsLow f ticket key → IsLow (with_event f event) ticket key
 low_later f ticket key event may apart l = record {
@@ -132,23 +116,23 @@ low_later f ticket key event may apart l = record {
   keyed = l.keyed;
 }
 
-low_step : (f : FrontData) (ticket : Ticket) (key : List ℕ) (event : EventData) (waits : Bool) → f.config.eviction ≡ Value → May f event → (waits ≡ true → IsLow f ticket key) → waits_after ticket key waits (world_of f) event ≡ true → IsLow (with_event f event) ticket key
-low_step f ticket key event waits eviction may low is =
+low_step : (f : FrontData) (ticket : Ticket) (key : List ℕ) (event : EventData) (waits : Bool) → (world_of f).told ≡ true → f.config.eviction ≡ Value → May f event → (waits ≡ true → IsLow f ticket key) → waits_after ticket key waits (world_of f) event ≡ true → IsLow (with_event f event) ticket key
+low_step f ticket key event waits told eviction may low is =
     elim (is_ask ticket key event) as (λ b. is_ask ticket key event ≡ b → (b || (waits && not (puts_on key (mutation_of (world_of f) event)))) ≡ true → IsLow (with_event f event) ticket key) [
-      | true ↦ λ asks _. low_asked f ticket key event eviction may asks
+      | true ↦ λ asks _. low_asked f ticket key event told eviction may asks
       | false ↦ λ _ both. low_later f ticket key event may (not_true _ (and_right waits (not (puts_on key (mutation_of (world_of f) event))) both)) (low (and_left waits (not (puts_on key (mutation_of (world_of f) event))) both))
     ] refl is
 
-low_along : (f : FrontData) (ticket : Ticket) (key : List ℕ) (events : List EventData) (waits : Bool) → f.config.eviction ≡ Value → AreLegal f events → (waits ≡ true → IsLow f ticket key) → waits_in ticket key waits (world_of f) events ≡ true → IsLow (with_events f events) ticket key
+low_along : (f : FrontData) (ticket : Ticket) (key : List ℕ) (events : List EventData) (waits : Bool) → (world_of f).told ≡ true → f.config.eviction ≡ Value → AreLegal f events → (waits ≡ true → IsLow f ticket key) → waits_in ticket key waits (world_of f) events ≡ true → IsLow (with_events f events) ticket key
 unfolding AreLegal
-low_along f ticket key [] waits eviction legal low is = subst (λ (l : List EventData). IsLow (record f { events = l }) ticket key) (sym (append-nil f.events)) (low is)
-low_along f ticket key (event ∷ events) waits eviction legal low is =
+low_along f ticket key [] waits told eviction legal low is = subst (λ (l : List EventData). IsLow (record f { events = l }) ticket key) (sym (append-nil f.events)) (low is)
+low_along f ticket key (event ∷ events) waits told eviction legal low is =
     subst (λ (g : FrontData). IsLow g ticket key) (more_events f event events) (
-    low_along (with_event f event) ticket key events (waits_after ticket key waits (world_of f) event) eviction legal.1 (λ on. low_step f ticket key event waits eviction legal.0 low on)
+    low_along (with_event f event) ticket key events (waits_after ticket key waits (world_of f) event) (same_told f event ∙ told) eviction legal.1 (λ on. low_step f ticket key event waits told eviction legal.0 low on)
     (ap (λ (w : World). waits_in ticket key (waits_after ticket key waits (world_of f) event) w events) (world_step f event) ∙ is)
     )
 
 -- under value eviction
-pub waiting_low : (f : FrontData) (ticket : Ticket) (key : List ℕ) → IsLegal f → f.config.eviction ≡ Value → is_waiting f ticket key ≡ true → IsLow f ticket key
+pub waiting_low : (f : FrontData) (ticket : Ticket) (key : List ℕ) → (world_of f).told ≡ true → IsLegal f → f.config.eviction ≡ Value → is_waiting f ticket key ≡ true → IsLow f ticket key
 unfolding IsLegal is_waiting
-waiting_low f ticket key legal eviction is = low_along (record f { events = [] }) ticket key f.events false eviction legal (λ no-wait. absurd (cc)) is
+waiting_low f ticket key told legal eviction is = low_along (record f { events = [] }) ticket key f.events false (sym (frame_after (begun f) f.events).told ∙ told) eviction legal (λ no-wait. absurd (cc)) is

@@ -1,6 +1,6 @@
 -- What a step at a stage of one vBucket does to the whole world.
 use Rattle.std.proofs.Common.{◌≡◌, ◌<◌, ℕ, Bool, refl, sym, ap, subst, ◌∙◌}
-use Rattle.std.specs.Prelude.{List, Option, None, IfSome, true, false, Result, Ok, Err, IfOk, OnErr}
+use Rattle.std.specs.Prelude.{List, Option, None, IsSome, IfSome, true, false, Result, Ok, Err, IfOk, OnErr}
 use Rattle.ep_model.specs.declared.config.Config.{Config}
 use Rattle.ep_model.specs.declared.data.CallData.{CallData}
 use Rattle.ep_model.specs.declared.data.EventData.{EventData}
@@ -13,7 +13,8 @@ use Rattle.ep_model.specs.declared.event.PartName.{PartName}
 use Rattle.ep_model.specs.declared.event.Ticket.{Ticket}
 use Rattle.flat_parts.specs.declared.data.Step.{Step}
 use Rattle.ep_drill.specs.declared.part.Part.{Part}
-use Rattle.ep_drill.specs.Calls.{event_of, noted, AreHome, KeptBut}
+use Rattle.hold_stage.specs.Went.{noted}
+use Rattle.ep_drill.specs.Calls.{event_of, AreHome, KeptBut}
 use Rattle.ep_drill.specs.Core.{Ready, Moved, Rested, Worked}
 use Rattle.ep_drill.proofs.WorldLemmas.{moved_by, moved_room, rested_by, room_rests, rested_then}
 
@@ -97,3 +98,9 @@ begun_with_room a r s vb sv n m room w at p = ap (λ (k : ℕ). part_in s k p) a
 -- and its layout is the world's
 pub layout_with_room : (config : Config) (a r s : WorldData Part) (n m : ℕ) → a.config ≡ config → r ≡ record a { event_room = n; byte_room = m } → s ≡ r → s.config ≡ config
 layout_with_room config a r s n m layout room w = ap (λ (k : WorldData Part). k.config) (w ∙ room) ∙ layout
+
+-- and all of them are at home
+pub home_with_room : (config : Config) (a r s : WorldData Part) (vb sv n m : ℕ) → Ready config a → vb < config.vbuckets → r ≡ record a { event_room = n; byte_room = m } → s ≡ r → sv ≡ vb → AreHome s.config (part_in s sv)
+home_with_room config a r s vb sv n m ready within room w at p is =
+    subst (λ (o : Option Part). IsSome o) (sym (begun_with_room a r s vb sv n m room w at p))
+    (ready.home vb within p (ap (λ (k : Config). there k p) (sym (layout_with_room config a r s n m ready.layout room w)) ∙ is))

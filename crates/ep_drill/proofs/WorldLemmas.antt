@@ -19,7 +19,8 @@ use Rattle.vb_world.specs.declared.data.FixedData.{FixedData}
 use Rattle.vb_world.specs.History.{events_of}
 use Rattle.vb_world.specs.World.{slot_of, place_at, place_in, home_of, part_in, is_out_with, has_out, start_of, front_in, fixed_in}
 use Rattle.ep_drill.specs.declared.part.Part.{Part}
-use Rattle.ep_drill.specs.Calls.{noted, AreHome}
+use Rattle.hold_stage.specs.Went.{noted}
+use Rattle.ep_drill.specs.Calls.{AreHome}
 use Rattle.ep_drill.specs.Core.{Ready, Moved, Rested}
 
 module _ {A : Type 0} where

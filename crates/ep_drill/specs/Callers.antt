@@ -8,8 +8,9 @@ use Rattle.ep_model.specs.declared.data.EventData.TheVariants as events
 use Rattle.ep_model.specs.declared.data.FrontData.{FrontData}
 use Rattle.ep_model.specs.declared.call.Reply.{Reply}
 use Rattle.ep_model.specs.declared.event.Cause.{Cause}
-use Rattle.ep_model.specs.declared.event.Cause.TheVariants as causes
 use Rattle.ep_model.specs.declared.event.Ticket.{Ticket}
+use Rattle.ep_model.specs.Statuses.{status_of}
+use Rattle.ep_model.specs.Answer.{bare_reply}
 use Rattle.ep_drill.specs.declared.choice.Tried.{Tried}
 use Rattle.ep_drill.specs.declared.choice.Tried.TheVariants as tries
 use Rattle.ep_drill.specs.declared.data.CallerData.{CallerData}
@@ -75,15 +76,9 @@ after_step (steps.Refused cause) caller = record caller { answered = caller.answ
 after_step (steps.Fetch ticket) caller = record caller { prior = Some ticket }
 after_step steps.FetchFull caller = caller
 
--- what a caller is told of a refusal: that it is for now, or that memory is wanting
-abbrev pub status_of : Cause → ℕ
-status_of causes.Quota = 134
-status_of causes.Warming = 134
-status_of (causes.Store ticket) = 134
-status_of (causes.Memory ticket) = 130
-
+-- what a caller is told of a refusal
 abbrev pub refusal : Cause → Reply
-refusal cause = record { status = status_of cause; cas = 0; flags = 0; uuid = 0; seqno = 0 }
+refusal cause = bare_reply (status_of cause)
 
 -- what a caller is told of what its call came to
 abbrev pub tried_of : Step → Tried

@@ -6,8 +6,6 @@ use Rattle.ep_model.specs.declared.config.Config.{Config}
 use Rattle.ep_model.specs.declared.data.CallData.{CallData}
 use Rattle.ep_model.specs.declared.data.EventData.{EventData}
 use Rattle.ep_model.specs.declared.data.EventData.TheVariants as events
-use Rattle.ep_model.specs.declared.data.FrontData.{FrontData}
-use Rattle.ep_model.specs.Front.{with_event}
 use Rattle.hold_stage.specs.Touches.{there}
 use Rattle.flat_parts.specs.declared.data.Step.{Step}
 use Rattle.flat_parts.specs.declared.data.Step.TheVariants as steps
@@ -23,11 +21,6 @@ event_of caller call now prior value (steps.Done reply) = Some (events.Called ca
 event_of caller call now prior value (steps.Refused cause) = Some (events.Refused caller call now cause)
 event_of caller call now prior value (steps.Fetch ticket) = if is_prior prior ticket then None else Some (events.Asked ticket caller call)
 event_of caller call now prior value steps.FetchFull = None
-
--- a front with an event more, or with none
-abbrev pub noted : FrontData → Option EventData → FrontData
-noted f None = f
-noted f (Some event) = with_event f event
 
 -- a vBucket's parts are all at home
 abbrev pub AreHome : {P : Type 0} → Config → (PartName → Option P) → Type 0

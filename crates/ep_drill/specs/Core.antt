@@ -1,5 +1,5 @@
 -- What is true of a core between two steps, and how a step moves it.
-use Rattle.std.specs.Prelude.{◌≡◌, ◌≢◌, ℕ, ◌-◌, ◌^◌, min, ◌<◌, ◌≤◌, true, false, List, map, ◌++◌, length, slice_get, Option, Some, None, IfSome}
+use Rattle.std.specs.Prelude.{◌≡◌, ◌≢◌, ℕ, ◌-◌, ◌^◌, min, ◌<◌, ◌≤◌, true, false, List, map, ◌++◌, length, slice_get, Option, Some, None, IsSome, IfSome}
 use Rattle.std.specs.Option.{option_map}
 use Rattle.std.specs.List.{AllByRecursion}
 use Rattle.ep_model.specs.declared.config.Config.{Config}
@@ -24,20 +24,22 @@ use Rattle.ep_model.specs.declared.event.PartName.{PartName}
 use Rattle.ep_drill.specs.Parts.{part_stands}
 use Rattle.flat_parts.specs.declared.data.Step.{Step}
 use Rattle.ep_drill.specs.declared.owned.Caller.{Caller}
-use Rattle.ep_drill.specs.Calls.{event_of, noted, AreHome, KeptBut}
+use Rattle.hold_stage.specs.Went.{noted}
+use Rattle.ep_drill.specs.Calls.{event_of, AreHome, KeptBut}
 use Rattle.ep_drill.specs.Callers.{CallerStands, caller_data, next_of, after_step}
 use Rattle.ep_drill.specs.Fetches.{fetched_data}
 use Rattle.ep_drill.specs.Stands.{DeskStands, BatchStands, FetchedStands}
 use Rattle.ep_drill.specs.Tries.{ComesTo}
 
-abbrev pub bench_data : Bench → BenchData
+abbrev pub bench_data : {K : Type 0} → Bench K → BenchData
 bench_data bench = record { desk = bench.desk; batch = bench.batch; reads = map (option_map fetched_data) bench.reads.items }
 
--- A vBucket's desk, batch and reads stand for its history. All that its store is known to hold is noted, failed reads
+-- A vBucket's desk, batch and reads stand for its history, and its store tells what it holds. All that its store is known to hold is noted, failed reads
 -- have numbers of their own, and no batch is left over once a commit failed.
 pub record BenchStands (f : FrontData) (bench : BenchData) : Type 0 where
   pub opened : (world_of f).opened ≡ true
-  pub desk : DeskStands f bench.desk.keeper.content bench.desk.stored bench.desk.doubt bench.desk.noted bench.desk.read_faults
+  pub desk : DeskStands f bench.desk
+  pub tells : IsSome bench.desk.keeper.content
   pub known : bench.desk.stored ≡ bench.desk.noted
   pub batch : IfSome bench.batch (λ b. BatchStands f bench.desk.stored b)
   pub sure : IfSome bench.batch (λ _. bench.desk.doubt ≡ None)
@@ -101,7 +103,7 @@ abbrev pub count_of : Option BatchData → ℕ
 count_of None = 0
 count_of (Some batch) = min (length batch.rows) (2 ^ 32 - 1)
 
-abbrev pub core_data : Config → WorldData Part → List Bench → List Caller → CoreData
+abbrev pub core_data : {K : Type 0} → Config → WorldData Part → List (Bench K) → List Caller → CoreData
 core_data config world benches callers = record { config = config; world = world; benches = map bench_data benches; callers = map caller_data callers }
 
 -- what a caller has to call

@@ -1,16 +1,17 @@
 -- What reads of the store find, and how they end.
-use Rattle.std.specs.Prelude.{◌≡◌, ℕ, ◌≤◌, ◌<◌, ◌⊎◌, Bool, true, false, List, Option, Some, None, IsSome, Vec}
+use Rattle.std.specs.Prelude.{◌≡◌, ℕ, ◌+◌, ◌⊎◌, Bool, true, false, List, Option, Some, None, IsSome, Vec}
 use Rattle.std.specs.FinMap as map
 use Rattle.std.specs.declared.alloc.Global.{Global}
 use Rattle.ep_model.specs.declared.call.Meta.{Meta}
 use Rattle.ep_model.specs.Limits.{IsKey}
-use Rattle.ep_model.specs.World.{Doc}
+use Rattle.ep_model.specs.World.{Doc, doc_from}
 use Rattle.ep_model.specs.declared.data.EventData.TheVariants as events
 use Rattle.ep_model.specs.declared.data.FrontData.{FrontData}
 use Rattle.ep_model.specs.declared.event.Ticket.{Ticket}
 use Rattle.ep_model.specs.Front.{with_event}
 use Rattle.kv_keeper.specs.declared.data.DeskData.{DeskData}
 use Rattle.kv_keeper.specs.Content.{Content}
+use Rattle.kv_keeper.specs.Desk.{HasFailedRead}
 use Rattle.ep_drill.specs.declared.data.FetchedData.{FetchedData}
 use Rattle.ep_drill.specs.declared.data.FoundData.{FoundData}
 use Rattle.ep_drill.specs.declared.data.FoundData.TheVariants as founds
@@ -26,14 +27,14 @@ use Rattle.flat_parts.specs.declared.data.Outcome.{Outcome}
 use Rattle.flat_parts.specs.declared.data.Outcome.TheVariants as outcomes
 use Rattle.flat_parts.specs.declared.data.PlaceData.{PlaceData}
 use Rattle.flat_parts.specs.declared.data.StripeData.{StripeData}
-use Rattle.flat_parts.specs.Nodes.{doc_of, node_at, first_waiting, outcome_at, settled}
+use Rattle.flat_parts.specs.Nodes.{node_at, first_waiting, outcome_at, settled}
 use Rattle.flat_parts.specs.Steps.{restored}
 use Rattle.ep_drill.specs.Stands.{FetchedStands}
 use Rattle.ep_drill.specs.Parts.{Becomes}
 
 -- what was read, without where its bytes lie
 abbrev pub found_data : Found → FoundData
-found_data (found.Row row) = founds.Row (doc_of row.meta row.value.items)
+found_data (found.Row row) = founds.Row (doc_from row.meta row.value.items)
 found_data found.Absent = founds.Absent
 found_data (found.Failed fault) = founds.Failed fault
 found_data found.NoMemory = founds.NoMemory
@@ -59,24 +60,25 @@ IsFoundIn content key founds.NoMemory = Unit {0}
 -- memory then, or was before, exactly where that is answered.
 abbrev pub IsBack : StripeData → List ℕ → Meta → List ℕ → StripeData → Bool → Type 0
 IsBack x key meta value y true =
-    (node : NodeData) × (node_at x.nodes key ≡ Some node) × (((node.value ≡ None → ⊥) × (y ≡ x)) ⊎ ((node.value ≡ None) × (node.meta ≡ meta) × (y ≡ restored x key (doc_of meta value))))
+    (node : NodeData) × (node_at x.nodes key ≡ Some node) × (((node.value ≡ None → ⊥) × (y ≡ x)) ⊎ ((node.value ≡ None) × (node.meta ≡ meta) × (y ≡ restored x key (doc_from meta value))))
 IsBack x key meta value y false = (y ≡ x) × ((node : NodeData) → node_at x.nodes key ≡ Some node → (node.value ≡ None) × (node.meta ≡ meta → ⊥))
 
 -- what a read leaves of its stripe
 abbrev pub settles : StripeData → ℕ → Outcome → StripeData
 settles x number outcome = record x { places = settled x.places number outcome }
 
--- A failed read has the number that the desk's count of read faults has since; any other leaves the count.
-abbrev pub IsCounted : ℕ → ℕ → FoundData → Type 0
-IsCounted before now (founds.Row doc) = now ≡ before
-IsCounted before now founds.Absent = now ≡ before
-IsCounted before now (founds.Failed fault) = (before < fault) × (fault ≡ now)
-IsCounted before now founds.NoMemory = now ≡ before
+-- A read that failed has the number that the desk's count of failed reads has since, one more than before. Any other leaves the
+-- desk as it was.
+abbrev pub Reads : DeskData → DeskData → FoundData → Type 0
+Reads old new (founds.Row doc) = new ≡ old
+Reads old new founds.Absent = new ≡ old
+Reads old new (founds.Failed fault) = (fault ≡ old.read_faults + 1) × HasFailedRead old new
+Reads old new founds.NoMemory = new ≡ old
 
 -- a read for whoever waits in the stripe stands; none is made where nobody waits
-abbrev pub IsRead : FrontData → ℕ → ℕ → ℕ → Option Fetched → Type 0
-IsRead f stripe before now None = now ≡ before
-IsRead f stripe before now (Some fetched) = FetchedStands f (fetched_data fetched) × (fetched.ticket.stripe ≡ stripe) × IsCounted before now (found_data fetched.found)
+abbrev pub IsRead : FrontData → ℕ → DeskData → DeskData → Option Fetched → Type 0
+IsRead f stripe old new None = new ≡ old
+IsRead f stripe old new (Some fetched) = FetchedStands f (fetched_data fetched) × (fetched.ticket.stripe ≡ stripe) × Reads old new (found_data fetched.found)
 
 -- the read is that of the oldest place that waits in a stripe; none is made where none waits
 abbrev pub IsReadOf : Option PlaceData → Option Fetched → Type 0
@@ -97,21 +99,6 @@ HasWaiting None = ⊥
 HasWaiting (Some (parts.Stripe x)) = IsSome (first_waiting x.places)
 HasWaiting (Some (parts.Queue q)) = ⊥
 HasWaiting (Some (parts.Desk d)) = ⊥
-
--- P, where the store failed
-abbrev pub OnFault : FoundData → Type 0 → Type 0
-OnFault (founds.Row doc) P = Unit {0}
-OnFault founds.Absent P = Unit {0}
-OnFault (founds.Failed fault) P = P
-OnFault founds.NoMemory P = Unit {0}
-
--- a read leaves the store and what is known of it, but for the count of read faults
-pub record DeskRead {K : Type 0} (content : Content) (now : Option Content) (old new : DeskData K) : Type 0 where
-  pub told : now ≡ Some content
-  pub stored : new.stored ≡ old.stored
-  pub noted : new.noted ≡ old.noted
-  pub doubt : new.doubt ≡ old.doubt
-  pub faults : old.read_faults ≤ new.read_faults
 
 -- the place of a ticket still stands in a stripe
 abbrev pub HasPlace : Option Part → Ticket → Type 0

@@ -16,17 +16,17 @@ use Rattle.ep_model.specs.declared.data.EventData.TheVariants.{Called, Refused, 
 use Rattle.ep_model.specs.declared.data.FrontData.{FrontData}
 use Rattle.ep_model.specs.World.{Doc, World}
 use Rattle.ep_model.specs.Stripes.{stripe_of}
-use Rattle.ep_model.specs.Answer.{Effect, Nothing, Puts, Sets, answer, apply}
-use Rattle.ep_model.specs.History.{step}
-use Rattle.ep_model.specs.Needs.{key_of}
+use Rattle.ep_model.specs.Answer.{Effect, Nothing, Puts, Sets, apply}
+use Rattle.ep_model.specs.History.{call_effect, step}
+use Rattle.ep_model.specs.Calls.{key_of}
 use Rattle.ep_model.specs.Front.{begun, world_of, with_event, marked}
 use Rattle.ep_model.specs.Legal.{IsUnused, IsBelow, HasFailed, Caused, May, IsLegal}
 use Rattle.hold_stage.specs.Touches.{touches_call, touches}
-use Rattle.hold_stage.specs.Mutations.{put_by, mutation_of, mutations, above, puts_on, is_ask, is_waiting}
-use Rattle.hold_stage.proofs.Effects.{IsNext, effect_is_next, effect_of_get, effect_of_observe, effect_of_failovers, effect_of_get_state}
-use Rattle.hold_stage.proofs.Callers.{same_is}
-use Rattle.hold_stage.proofs.Views.{SameStripe, SameQueue, frame_step, step_stripe, step_queue, step_mark, step_below, not_same, or_left, or_true_left, or_true_right}
-use Rattle.hold_stage.proofs.Later.{world_step, all_append}
+use Rattle.ep_model.specs.Mutations.{put_by, mutation_of, mutations, above}
+use Rattle.hold_stage.specs.Waits.{puts_on, is_ask, is_waiting}
+use Rattle.ep_model.proofs.EffectLemmas.{IsDone, call_done}
+use Rattle.hold_stage.proofs.Views.{SameStripe, SameQueue, frame_step, step_stripe, step_queue, step_mark, step_below, no_mutation, written_touches, touches_keyed, not_same, or_left, or_true_right}
+use Rattle.hold_stage.proofs.Later.{same_told, world_step, all_append}
 use Rattle.hold_stage.proofs.Legality.{has_more}
 use Rattle.hold_stage.proofs.Bounds.{marked_step, asked_may, waiting_step}
 use Rattle.hold_stage.proofs.Mutations.{mutations_append}
@@ -38,38 +38,20 @@ use Rattle.flat_parts.specs.declared.data.QueueData.{QueueData}
 use Rattle.ep_drill.specs.Stands.{ValueStands, IsGone, IsNoRead, IsAbsent, OutcomeStands, ticket_of, PlaceStands, StripeStands, QueueStands}
 
 -- a document of another stripe isn't this key's
-puts_apart : (stripes stripe : ℕ) (key other : List ℕ) (w : World) (effect : Effect) → stripe_of key stripes ≡ stripe → stripe_of other stripes ≢ stripe → IsNext w other effect → puts_on key (put_by effect) ≡ false
-puts_apart stripes stripe key other w Nothing here differs next = refl
-puts_apart stripes stripe key other w (Puts k doc) here differs next =
+puts_apart : (config : Config) (stripe : ℕ) (w : World) (call : CallData) (now : ℕ) (key : List ℕ) (effect : Effect) → stripe_of key config.stripes ≡ stripe → touches_call config call (Stripe stripe) ≡ false → IsDone w call now effect → puts_on key (put_by effect) ≡ false
+puts_apart config stripe w call now key Nothing here apart done = refl
+puts_apart config stripe w call now key (Puts k doc) here apart done =
+    let test : (stripe == stripe_of k config.stripes || false) ≡ false = sym (written_touches config call k (Stripe stripe) done.0) ∙ apart in
     elim (bytes_eq k key) as (λ b. bytes_eq k key ≡ b → b ≡ false) [
-      | true ↦ λ is. absurd (differs (ap (λ (l : List ℕ). stripe_of l stripes) (sym next.0 ∙ (bytes_eq-Decides k key).0 is) ∙ here))
+      | true ↦ λ is. absurd (not_same stripe (stripe_of k config.stripes) (or_left _ _ test) (sym (ap (λ (l : List ℕ). stripe_of l config.stripes) ((bytes_eq-Decides k key).0 is) ∙ here)))
       | false ↦ λ is. refl
     ] refl
-puts_apart stripes stripe key other w (Sets state) here differs next = refl
-
-puts_nothing : (key : List ℕ) (effect : Effect) → effect ≡ Nothing → puts_on key (put_by effect) ≡ false
-puts_nothing key effect is = ap (λ (e : Effect). puts_on key (put_by e)) is
-
-call_apart : (config : Config) (stripe : ℕ) (w : World) (call : CallData) (now : ℕ) (key other : List ℕ) → key_of call ≡ Some other → stripe_of key config.stripes ≡ stripe → (stripe == stripe_of other config.stripes) ≡ false → puts_on key (put_by (answer w call now).effect) ≡ false
-call_apart config stripe w call now key other is here test =
-    puts_apart config.stripes stripe key other w (answer w call now).effect here (λ e. not_same stripe (stripe_of other config.stripes) test (sym e)) (effect_is_next w call now other is)
-
-put_apart_call : (config : Config) (stripe : ℕ) (w : World) (call : CallData) (now : ℕ) (key : List ℕ) → nat_lt stripe config.stripes ≡ true → stripe_of key config.stripes ≡ stripe → touches_call config call (Stripe stripe) ≡ false → puts_on key (put_by (answer w call now).effect) ≡ false
-put_apart_call config stripe w (calls.Get other) now key there here apart = puts_nothing key _ (effect_of_get w other now)
-put_apart_call config stripe w (calls.Store kind other value flags expiration cas) now key there here apart = call_apart config stripe w (calls.Store kind other value flags expiration cas) now key other refl here (or_left _ _ apart)
-put_apart_call config stripe w (calls.Join front other value cas) now key there here apart = call_apart config stripe w (calls.Join front other value cas) now key other refl here (or_left _ _ apart)
-put_apart_call config stripe w (calls.Count down other delta initial expiration cas) now key there here apart = call_apart config stripe w (calls.Count down other delta initial expiration cas) now key other refl here (or_left _ _ apart)
-put_apart_call config stripe w (calls.Delete other cas) now key there here apart = call_apart config stripe w (calls.Delete other cas) now key other refl here (or_left _ _ apart)
-put_apart_call config stripe w (calls.Touch other expiration fetch) now key there here apart = call_apart config stripe w (calls.Touch other expiration fetch) now key other refl here (or_left _ _ apart)
-put_apart_call config stripe w (calls.Observe uuid) now key there here apart = puts_nothing key _ (effect_of_observe w uuid now)
-put_apart_call config stripe w calls.Failovers now key there here apart = puts_nothing key _ (effect_of_failovers w now)
-put_apart_call config stripe w (calls.SetState state) now key there here apart = absurd (let e = or_left (nat_lt stripe config.stripes) false apart in cc)
-put_apart_call config stripe w calls.GetState now key there here apart = puts_nothing key _ (effect_of_get_state w now)
+puts_apart config stripe w call now key (Sets state) here apart done = refl
 
 -- an event that doesn't touch the stripe of a key doesn't change its document
 put_apart : (f : FrontData) (stripe : ℕ) (w : World) (event : EventData) (key : List ℕ) → nat_lt stripe f.config.stripes ≡ true → stripe_of key f.config.stripes ≡ stripe → touches f event (Stripe stripe) ≡ false → puts_on key (mutation_of w event) ≡ false
 unfolding touches
-put_apart f stripe w (Called caller call now reply value) key there here apart = put_apart_call f.config stripe w call now key there here apart
+put_apart f stripe w (Called caller call now reply value) key there here apart = puts_apart f.config stripe w call now key (call_effect w call now reply) here apart (call_done w call now reply)
 put_apart f stripe w (Refused caller call now cause) key there here apart = refl
 put_apart f stripe w (Expired other now) key there here apart =
     elim (bytes_eq other key) as (λ b. bytes_eq other key ≡ b → b ≡ false) [
@@ -81,19 +63,6 @@ put_apart f stripe w (Marked other number) key there here apart = refl
 put_apart f stripe w (Asked ticket caller call) key there here apart = refl
 put_apart f stripe w (ReadFailed ticket fault) key there here apart = refl
 put_apart f stripe w Opened key there here apart = refl
-
--- a call on a key touches the key's stripe
-pub touches_keyed : (config : Config) (call : CallData) (key : List ℕ) → key_of call ≡ Some key → touches_call config call (Stripe (stripe_of key config.stripes)) ≡ true
-touches_keyed config (calls.Get other) key is = let e : other ≡ key = cc in subst (λ k. (stripe_of k config.stripes == stripe_of other config.stripes) ≡ true) e (same_is (stripe_of other config.stripes))
-touches_keyed config (calls.Store kind other value flags expiration cas) key is = let e : other ≡ key = cc in subst (λ k. (stripe_of k config.stripes == stripe_of other config.stripes || false) ≡ true) e (or_true_left _ false (same_is (stripe_of other config.stripes)))
-touches_keyed config (calls.Join front other value cas) key is = let e : other ≡ key = cc in subst (λ k. (stripe_of k config.stripes == stripe_of other config.stripes || false) ≡ true) e (or_true_left _ false (same_is (stripe_of other config.stripes)))
-touches_keyed config (calls.Count down other delta initial expiration cas) key is = let e : other ≡ key = cc in subst (λ k. (stripe_of k config.stripes == stripe_of other config.stripes || false) ≡ true) e (or_true_left _ false (same_is (stripe_of other config.stripes)))
-touches_keyed config (calls.Delete other cas) key is = let e : other ≡ key = cc in subst (λ k. (stripe_of k config.stripes == stripe_of other config.stripes || false) ≡ true) e (or_true_left _ false (same_is (stripe_of other config.stripes)))
-touches_keyed config (calls.Touch other expiration fetch) key is = let e : other ≡ key = cc in subst (λ k. (stripe_of k config.stripes == stripe_of other config.stripes || false) ≡ true) e (or_true_left _ false (same_is (stripe_of other config.stripes)))
-touches_keyed config (calls.Observe uuid) key is = absurd (cc)
-touches_keyed config calls.Failovers key is = absurd (cc)
-touches_keyed config (calls.SetState state) key is = absurd (cc)
-touches_keyed config calls.GetState key is = absurd (cc)
 
 -- a call that asked at a ticket touches the ticket's stripe
 asked_touches : (f : FrontData) (ticket : Ticket) (caller : ℕ) (call : CallData) (before later : List EventData) → IsLegal f → f.events ≡ before ++ Asked ticket caller call ∷ later → touches_call f.config call (Stripe ticket.stripe) ≡ true
@@ -191,31 +160,8 @@ stripe_keeps stripe f event x legal may apart s =
       places = places_keep f stripe x.places event s.there legal may apart s.places;
       next = all_append (IsBelow (ticket_of stripe x.next)) f.events (event ∷ []) s.next (step_below f (ticket_of stripe x.next) event apart, tt);
       closed = λ closed. s.closed (sym same.opened ∙ closed);
+      is_told = same_told f event ∙ s.is_told;
     }
-
--- an event that doesn't touch the queue puts no document
-no_mutation_call : (config : Config) (w : World) (call : CallData) (now : ℕ) → touches_call config call Queue ≡ false → put_by (answer w call now).effect ≡ None
-no_mutation_call config w (calls.Get key) now apart = ap put_by (effect_of_get w key now)
-no_mutation_call config w (calls.Store kind key value flags expiration cas) now apart = absurd (cc)
-no_mutation_call config w (calls.Join front key value cas) now apart = absurd (cc)
-no_mutation_call config w (calls.Count down key delta initial expiration cas) now apart = absurd (cc)
-no_mutation_call config w (calls.Delete key cas) now apart = absurd (cc)
-no_mutation_call config w (calls.Touch key expiration fetch) now apart = absurd (cc)
-no_mutation_call config w (calls.Observe uuid) now apart = absurd (cc)
-no_mutation_call config w calls.Failovers now apart = absurd (cc)
-no_mutation_call config w (calls.SetState state) now apart = absurd (cc)
-no_mutation_call config w calls.GetState now apart = absurd (cc)
-
-no_mutation : (f : FrontData) (w : World) (event : EventData) → touches f event Queue ≡ false → mutation_of w event ≡ None
-unfolding touches
-no_mutation f w (Called caller call now reply value) apart = no_mutation_call f.config w call now apart
-no_mutation f w (Refused caller call now cause) apart = refl
-no_mutation f w (Expired key now) apart = absurd (cc)
-no_mutation f w (Persisted number) apart = refl
-no_mutation f w (Marked stripe number) apart = refl
-no_mutation f w (Asked ticket caller call) apart = refl
-no_mutation f w (ReadFailed ticket fault) apart = refl
-no_mutation f w Opened apart = refl
 
 -- the mutations with one event more
 pub mutations_step : (f : FrontData) (event : EventData) → mutations (begun f) (with_event f event).events ≡ mutations (begun f) f.events ++ option_to_list (mutation_of (world_of f) event)
@@ -239,6 +185,7 @@ queue_keeps f event q apart s =
       state = s.state ∙ sym same.state;
       opened = s.opened ∙ sym same.opened;
       table = same_table f event ∙ s.table;
+      is_told = same_told f event ∙ s.is_told;
     }
 
 persisted_apply : (w : World) (effect : Effect) → (apply w effect).persisted ≡ w.persisted
@@ -248,7 +195,7 @@ persisted_apply w (Sets state) = refl
 
 step_desk : (f : FrontData) (w : World) (event : EventData) → touches f event Desk ≡ false → (step w event).persisted ≡ w.persisted
 unfolding touches
-step_desk f w (Called caller call now reply value) apart = persisted_apply w (answer w call now).effect
+step_desk f w (Called caller call now reply value) apart = persisted_apply w (call_effect w call now reply)
 step_desk f w (Refused caller call now cause) apart = refl
 step_desk f w (Expired key now) apart = refl
 step_desk f w (Persisted number) apart = absurd (cc)

@@ -2,6 +2,7 @@ pub mod Stands
 pub mod Keeps
 pub mod Parts
 pub mod Calls
+pub mod Marks
 pub mod Answers
 pub mod Fetches
 pub mod Callers

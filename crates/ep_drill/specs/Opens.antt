@@ -1,5 +1,6 @@
 -- How a vBucket is made and opened.
-use Rattle.std.specs.Prelude.{◌≡◌, ◌≢◌, ℕ, zero, suc, ◌+◌, ◌<◌, Bool, false, nat_lt, List, [], ◌∷◌, ◌++◌, length, slice_get, Option, Some, None, Vec}
+use Rattle.std.specs.Prelude.{◌≡◌, ◌≢◌, ℕ, zero, suc, ◌+◌, ◌<◌, Bool, true, false, nat_lt, List, [], ◌∷◌, ◌++◌, length, Option, Some, None, Vec}
+use Rattle.std.specs.List.{AllByRecursion}
 use Rattle.ep_model.specs.declared.call.VbState.TheVariants.{Active}
 use Rattle.std.specs.declared.alloc.Global.{Global}
 use Rattle.ep_model.specs.declared.call.StoreKind.TheVariants.{Set as SetKind, Add as AddKind, Replace as ReplaceKind}
@@ -15,7 +16,7 @@ use Rattle.ep_model.specs.declared.event.PartName.TheVariants.{Stripe, Queue, De
 use Rattle.ep_model.specs.Config.{config_fault}
 use Rattle.ep_model.specs.Front.{empty_start}
 use Rattle.kv_keeper.specs.Desk.{new_desk}
-use Rattle.kv_keeper.specs.Memory.{MemoryData, empty_memory}
+use Rattle.kv_keeper.specs.Content.{KeeperData, empty_content}
 use Rattle.vb_world.specs.declared.data.WorldData.{WorldData}
 use Rattle.vb_world.specs.World.{front_in, part_in}
 use Rattle.ep_drill.specs.declared.data.CallerData.{CallerData}
@@ -108,12 +109,15 @@ pub record FirstOpened (config : Config) (n : ℕ) (world : WorldData Part) : Ty
   pub fronts : (vb : ℕ) → vb < n → front_in world vb ≡ record { config = config; id = vb; start = Some empty_start; events = Opened ∷ [] }
   pub home : (vb : ℕ) → vb < length world.buckets → AreHome config (part_in world vb)
 
--- each is an empty store, which fails where it was told to
-abbrev pub AreFresh : List MemoryData → Type 0
-AreFresh keepers = (number : ℕ) (keeper : MemoryData) → slice_get keepers number ≡ Some keeper → (fails : List ℕ) × (keeper ≡ empty_memory fails)
+-- a store tells that it holds nothing, and it isn't in doubt
+abbrev pub IsFresh : KeeperData → Type 0
+IsFresh keeper = (keeper.content ≡ Some empty_content) × (keeper.sure ≡ true)
+
+abbrev pub AreFresh : List KeeperData → Type 0
+AreFresh keepers = AllByRecursion IsFresh keepers
 
 -- a bench over a store, with no batch and these reads
-abbrev pub bench_over : List (Option FetchedData) → MemoryData → BenchData
+abbrev pub bench_over : List (Option FetchedData) → KeeperData → BenchData
 bench_over reads keeper = record { desk = new_desk keeper; batch = None; reads = reads }
 
 -- why a core isn't made: its layout's first field that is out of its limit, or want of memory

@@ -1,5 +1,5 @@
 -- What the parts are to a history.
-use Rattle.std.specs.Prelude.{◌≡◌, ◌⊎◌, ℕ, ◌≤◌, ◌<◌, true, false, nat_lt, List, [], ◌∷◌, ◌++◌, Option, Some, None}
+use Rattle.std.specs.Prelude.{◌≡◌, ◌⊎◌, ℕ, ◌≤◌, ◌<◌, true, false, nat_lt, List, [], ◌∷◌, ◌++◌, Option, Some, None, IfSome}
 use Rattle.std.specs.List.{AllByRecursion}
 use Rattle.std.specs.FinMap as map
 use Rattle.ep_model.specs.declared.event.Ticket.{Ticket}
@@ -7,13 +7,14 @@ use Rattle.ep_model.specs.declared.data.CallData.{CallData}
 use Rattle.ep_model.specs.declared.data.EventData.{EventData}
 use Rattle.ep_model.specs.declared.data.EventData.TheVariants as events
 use Rattle.ep_model.specs.declared.data.FrontData.{FrontData}
-use Rattle.ep_model.specs.World.{Doc}
+use Rattle.ep_model.specs.World.{Doc, meta_of}
 use Rattle.ep_model.specs.Stripes.{stripe_of}
 use Rattle.ep_model.specs.History.{upto}
-use Rattle.ep_model.specs.Needs.{key_of}
+use Rattle.ep_model.specs.Calls.{key_of}
 use Rattle.ep_model.specs.Front.{begun, world_of, marked}
 use Rattle.ep_model.specs.Legal.{IsSilent, IsUnused, IsBelow, IsNoFault, HasAsked, HasFailed}
-use Rattle.hold_stage.specs.Mutations.{mutations, above, is_waiting}
+use Rattle.ep_model.specs.Mutations.{mutations, above}
+use Rattle.hold_stage.specs.Waits.{is_waiting}
 use Rattle.flat_parts.specs.declared.data.NodeData.{NodeData}
 use Rattle.flat_parts.specs.declared.data.Outcome.{Outcome}
 use Rattle.flat_parts.specs.declared.data.Outcome.TheVariants.{Waiting, Merged, Absent, Failed, NoMemory}
@@ -25,8 +26,9 @@ use Rattle.ep_drill.specs.declared.data.FoundData.{FoundData}
 use Rattle.ep_drill.specs.declared.data.FoundData.TheVariants as founds
 use Rattle.kv_keeper.specs.declared.data.BatchData.{BatchData}
 use Rattle.kv_keeper.specs.Batch.{laid}
-use Rattle.kv_keeper.specs.Content.{Content}
-use Rattle.flat_parts.specs.Nodes.{meta_of, node_at}
+use Rattle.kv_keeper.specs.declared.data.DeskData.{DeskData}
+use Rattle.kv_keeper.specs.Content.{Content, KeeperData}
+use Rattle.flat_parts.specs.Nodes.{node_at}
 
 -- A resident value is the document's. A value may be away only where the stripe knows that it is stored, and where the
 -- document isn't deleted.
@@ -49,14 +51,8 @@ IsGone mark (Some doc) = (doc.seqno ≤ mark) × (doc.deleted ≡ true)
 
 -- the event is no failed read for the ticket
 abbrev pub IsNoRead : Ticket → EventData → Type 0
-IsNoRead ticket (events.Called caller call now reply value) = Unit {0}
-IsNoRead ticket (events.Refused caller call now cause) = Unit {0}
-IsNoRead ticket (events.Expired key now) = Unit {0}
-IsNoRead ticket (events.Persisted number) = Unit {0}
-IsNoRead ticket (events.Marked stripe number) = Unit {0}
-IsNoRead ticket (events.Asked other caller call) = Unit {0}
 IsNoRead ticket (events.ReadFailed other fault) = (other ≡ ticket) → ⊥
-IsNoRead ticket events.Opened = Unit {0}
+IsNoRead ticket event = Unit {0}
 
 -- the key has no live document to come
 abbrev pub IsAbsent : Option Doc → Type 0
@@ -93,6 +89,7 @@ pub record StripeStands (f : FrontData) (stripe : ℕ) (x : StripeData) : Type 0
   pub places : AllByRecursion (PlaceStands f stripe) x.places
   pub next : AllByRecursion (IsBelow (ticket_of stripe x.next)) f.events
   pub closed : (world_of f).opened ≡ false → x.places ≡ []
+  pub is_told : (world_of f).told ≡ true
 
 -- a queue stands for a history: it holds all mutations above the persisted number, so that nothing that isn't stored is lost
 pub record QueueStands (f : FrontData) (q : QueueData) : Type 0 where
@@ -104,6 +101,7 @@ pub record QueueStands (f : FrontData) (q : QueueData) : Type 0 where
   pub opened : q.opened ≡ (world_of f).opened
   -- a flat queue has an empty failover table
   pub table : (world_of f).failovers ≡ []
+  pub is_told : (world_of f).told ≡ true
 
 -- The caller's call asked at this ticket before, and no call of the caller was answered since.
 pub record PriorStands (f : FrontData) (caller : ℕ) (call : CallData) (ticket : Ticket) : Type 0 where
@@ -118,39 +116,43 @@ PriorsStand f caller call (Some ticket) = PriorStands f caller call ticket
 
 -- a failed read has a number up to this one
 abbrev pub IsFaultWithin : ℕ → EventData → Type 0
-IsFaultWithin faults (events.Called caller call now reply value) = Unit {0}
-IsFaultWithin faults (events.Refused caller call now cause) = Unit {0}
-IsFaultWithin faults (events.Expired key now) = Unit {0}
-IsFaultWithin faults (events.Persisted number) = Unit {0}
-IsFaultWithin faults (events.Marked stripe number) = Unit {0}
-IsFaultWithin faults (events.Asked ticket caller call) = Unit {0}
 IsFaultWithin faults (events.ReadFailed ticket fault) = (1 ≤ fault) × (fault ≤ faults)
-IsFaultWithin faults events.Opened = Unit {0}
+IsFaultWithin faults event = Unit {0}
 
 -- a store holds what the history had put at one of its numbers
 pub record HoldsAt (f : FrontData) (content : Content) (number : ℕ) : Type 0 where
   pub docs : content.docs ≡ (upto (begun f) f.events number).docs
+  pub version : content.version ≡ 1
   pub high : content.high ≡ number
   pub maxcas : content.maxcas ≡ (upto (begun f) f.events number).maxcas
 
--- Where a commit failed, that is so at the number up to which the store was known before, or at the one in doubt.
-abbrev pub ContentStands : FrontData → Content → ℕ → Option ℕ → Type 0
-ContentStands f content stored None = HoldsAt f content stored
-ContentStands f content stored (Some doubt) = (stored ≤ doubt) × (doubt ≤ (world_of f).high) × (HoldsAt f content stored ⊎ HoldsAt f content doubt)
+-- so does one that tells what it holds
+abbrev pub HoldsIfTold : FrontData → Option Content → ℕ → Type 0
+HoldsIfTold f content number = IfSome content (λ c. HoldsAt f c number)
+
+-- Where a commit failed, one of the two contents that may be the true one is so at the number up to which the store was known
+-- before, and the other at the one in doubt.
+abbrev pub ContentStands : FrontData → KeeperData → ℕ → Option ℕ → Type 0
+ContentStands f keeper stored None = HoldsIfTold f keeper.content stored
+ContentStands f keeper stored (Some doubt) =
+    (stored ≤ doubt) × (doubt ≤ (world_of f).high)
+    × ((HoldsIfTold f keeper.content stored × HoldsIfTold f keeper.second doubt) ⊎ (HoldsIfTold f keeper.content doubt × HoldsIfTold f keeper.second stored))
 
 -- A desk stands for a history: its store holds what the history had put at a number that is not below the persisted one.
-pub record DeskStands (f : FrontData) (content : Content) (stored : ℕ) (doubt : Option ℕ) (noted faults : ℕ) : Type 0 where
-  pub low : (world_of f).persisted ≤ stored
-  pub top : stored ≤ (world_of f).high
-  pub holds : ContentStands f content stored doubt
-  pub persisted : noted ≡ (world_of f).persisted
-  pub told : AllByRecursion (IsFaultWithin faults) f.events
+pub record DeskStands (f : FrontData) (desk : DeskData) : Type 0 where
+  pub low : (world_of f).persisted ≤ desk.stored
+  pub top : desk.stored ≤ (world_of f).high
+  pub holds : ContentStands f desk.keeper desk.stored desk.doubt
+  pub persisted : desk.noted ≡ (world_of f).persisted
+  pub told : AllByRecursion (IsFaultWithin desk.read_faults) f.events
+  pub is_told : (world_of f).told ≡ true
 
 -- A batch stands between its taking and its commit: laid over what the store holds it gives what the history had put at the
 -- batch's number.
 pub record BatchStands (f : FrontData) (stored : ℕ) (batch : BatchData) : Type 0 where
   pub opened : (world_of f).opened ≡ true
-  pub low : stored < batch.to
+  pub above : (world_of f).persisted < batch.to
+  pub low : stored ≤ batch.to
   pub top : batch.to ≤ (world_of f).high
   pub docs : laid batch.rows (upto (begun f) f.events stored).docs ≡ (upto (begun f) f.events batch.to).docs
   pub maxcas : batch.maxcas ≡ (upto (begun f) f.events batch.to).maxcas

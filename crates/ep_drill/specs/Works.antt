@@ -1,16 +1,15 @@
 -- What each kind of work at a vBucket's bench answers, and what it makes of the world and of the bench.
-use Rattle.std.specs.Prelude.{◌≡◌, ℕ, Bool, ◌||◌, List, Option, Some, None, IfSome, slice_get, slice_set, is_some}
+use Rattle.std.specs.Prelude.{◌≡◌, ℕ, Bool, ◌||◌, List, Option, Some, None, slice_get, slice_set, is_some}
 use Rattle.ep_model.specs.declared.config.Config.{Config}
 use Rattle.ep_model.specs.declared.data.EventData.{EventData}
 use Rattle.ep_model.specs.declared.data.EventData.TheVariants as events
 use Rattle.ep_model.specs.declared.event.PartName.{PartName}
 use Rattle.ep_model.specs.declared.event.PartName.TheVariants.{Stripe}
 use Rattle.ep_model.specs.declared.event.Ticket.{Ticket}
+use Rattle.ep_model.specs.Front.{world_of}
 use Rattle.hold_stage.specs.Touches.{is_stripe, is_queue, is_desk}
 use Rattle.kv_keeper.specs.declared.data.BatchData.{BatchData}
 use Rattle.kv_keeper.specs.declared.data.DeskData.{DeskData}
-use Rattle.kv_keeper.specs.Kept.{Rose}
-use Rattle.kv_keeper.specs.Memory.{MemoryData}
 use Rattle.vb_world.specs.declared.data.WorldData.{WorldData}
 use Rattle.vb_world.specs.World.{front_in, part_in}
 use Rattle.ep_drill.specs.declared.choice.Answer.{Answer}
@@ -25,11 +24,11 @@ use Rattle.ep_drill.specs.declared.data.FoundData.TheVariants as founds
 use Rattle.ep_drill.specs.declared.part.Part.{Part}
 use Rattle.ep_drill.specs.declared.store.Flushed.{Flushed}
 use Rattle.ep_drill.specs.declared.store.Flushed.TheVariants as flushes
-use Rattle.ep_drill.specs.declared.store.Marking.{Marking}
-use Rattle.ep_drill.specs.declared.store.Marking.TheVariants as markings
-use Rattle.ep_drill.specs.Answers.{IsMarked, IsTaken, IsFlushed, OnFailed}
-use Rattle.ep_drill.specs.Fetches.{fetched_data, found_data, DeskRead, IsMerged, IsRead, OnFault, ReadsOldest}
+use Rattle.ep_drill.specs.declared.mark.Marking.{Marking}
+use Rattle.ep_drill.specs.Answers.{IsTaken, IsFlushed}
+use Rattle.ep_drill.specs.Fetches.{fetched_data, IsMerged, IsRead, ReadsOldest}
 use Rattle.ep_drill.specs.Calls.{KeptBut}
+use Rattle.ep_drill.specs.Marks.{marked_by, IsMarked}
 use Rattle.ep_drill.specs.Parts.{Becomes}
 use Rattle.ep_drill.specs.Core.{Moved, count_of}
 
@@ -47,9 +46,10 @@ pub record WasTaken (config : Config) (vb number : ℕ) (old new : WorldData Par
   pub taken : IsTaken (front_in old vb) bench.desk.stored batch
   pub count : number ≡ count_of batch
 
--- Memory was wanting for a batch. One that wasn't committed is dropped.
+-- Memory was wanting for a batch of what isn't stored. One that wasn't committed is dropped.
 pub record WasDropped (config : Config) (vb : ℕ) (old new : WorldData Part) (bench after : BenchData) : Type 0 where
   pub sure : bench.desk.doubt ≡ None
+  pub more : (world_of (front_in old vb)).high ≡ (world_of (front_in old vb)).persisted → ⊥
   pub left : after ≡ record bench { batch = None }
   pub moved : Moved config vb None old new
   pub kept : (p : PartName) → part_in new vb p ≡ part_in old vb p
@@ -67,28 +67,22 @@ Takes config vb (answers.Read waited) old new bench after = ⊥
 Takes config vb (answers.Merged merging) old new bench after = ⊥
 Takes config vb (answers.Paged paged) old new bench after = ⊥
 
--- what is left of a batch whose commit went so: it is kept only where memory was wanting
-abbrev pub batch_after : BatchData → Flushed → Option BatchData
-batch_after batch (flushes.Stored number) = None
-batch_after batch flushes.Failed = None
-batch_after batch flushes.NoMemory = Some batch
-
 -- and what is noted
 abbrev pub persisted_by : BatchData → Flushed → Option EventData
 persisted_by batch (flushes.Stored number) = Some (events.Persisted batch.to)
 persisted_by batch flushes.Failed = None
 persisted_by batch flushes.NoMemory = None
 
--- The batch's commit went so.
+-- The batch's commit went so, and the batch is used up.
 pub record WasFlushed (config : Config) (vb : ℕ) (flushed : Flushed) (old new : WorldData Part) (bench after : BenchData) : Type 0 where
   pub batch : BatchData
-  pub desk : DeskData MemoryData
+  pub desk : DeskData
+  pub sure : bench.desk.doubt ≡ None
   pub taken : bench.batch ≡ Some batch
-  pub left : after ≡ record bench { desk = desk; batch = batch_after batch flushed }
+  pub left : after ≡ record bench { desk = desk; batch = None }
   pub moved : Moved config vb (persisted_by batch flushed) old new
   pub kept : KeptBut config (λ p. is_queue p || is_desk p) (part_in old vb) (part_in new vb)
-  pub done : IsFlushed (front_in old vb) (front_in new vb) (Some desk.keeper.content) bench.desk desk batch flushed
-  pub rose : OnFailed flushed (Rose bench.desk.keeper.faults desk.keeper.faults)
+  pub done : IsFlushed (front_in old vb) (front_in new vb) bench.desk desk batch flushed
 
 -- nothing is committed exactly where there is no batch
 abbrev pub Commits : Config → ℕ → Answer → WorldData Part → WorldData Part → BenchData → BenchData → Type 0
@@ -100,11 +94,6 @@ Commits config vb (answers.Marked marking) old new bench after = ⊥
 Commits config vb (answers.Read waited) old new bench after = ⊥
 Commits config vb (answers.Merged merging) old new bench after = ⊥
 Commits config vb (answers.Paged paged) old new bench after = ⊥
-
--- what is noted where a stripe is told what is stored
-abbrev pub marked_by : ℕ → ℕ → Marking → Option EventData
-marked_by stripe number markings.Idle = None
-marked_by stripe number (markings.Raised other) = Some (events.Marked stripe number)
 
 -- The stripe was told what is stored.
 pub record WasMarked (config : Config) (vb stripe : ℕ) (marking : Marking) (old new : WorldData Part) (bench after : BenchData) : Type 0 where
@@ -133,15 +122,13 @@ reads_after reads stripe (Some fetched) = slice_set reads stripe (Some (fetched_
 pub record WasFetched (config : Config) (vb stripe : ℕ) (waited : Bool) (old new : WorldData Part) (bench after : BenchData) : Type 0 where
   pub sure : bench.desk.doubt ≡ None
   pub read : Option Fetched
-  pub desk : DeskData MemoryData
+  pub desk : DeskData
   pub waits : waited ≡ is_some read
   pub oldest : ReadsOldest (part_in old vb (Stripe stripe)) read
   pub left : after ≡ record bench { desk = desk; reads = reads_after bench.reads stripe read }
   pub moved : Moved config vb None old new
   pub kept : (p : PartName) → part_in new vb p ≡ part_in old vb p
-  pub store : DeskRead bench.desk.keeper.content (Some desk.keeper.content) bench.desk desk
-  pub stands : IsRead (front_in old vb) stripe bench.desk.read_faults desk.read_faults read
-  pub rose : IfSome read (λ fetched. OnFault (found_data fetched.found) (Rose bench.desk.keeper.faults desk.keeper.faults))
+  pub stands : IsRead (front_in old vb) stripe bench.desk desk read
 
 -- nothing is read where it is in doubt what the store holds
 abbrev pub Fetches : Config → ℕ → ℕ → Answer → WorldData Part → WorldData Part → BenchData → BenchData → Type 0

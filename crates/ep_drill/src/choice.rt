@@ -1,6 +1,7 @@
 // The steps that a core can make, and what they answer.
 use crate::fetch::Merging;
-use crate::store::{Flushed, Marking, Paged};
+use crate::mark::Marking;
+use crate::store::{Flushed, Paged};
 use ep_model::{Reply, Ticket};
 
 /// A step of a core. A vBucket, a stripe and a caller are named by their numbers, counted from 0, and moments are

@@ -1,14 +1,14 @@
 // What clauses see of a core: plain data. No value of these types is made.
 use crate::part::Part;
 use ep_model::{CallData, Config, DocData, Ticket};
-use kv_keeper::{BatchData, DeskData, MemoryKeeper};
+use kv_keeper::{BatchData, DeskData};
 use std::collections::LinkedList;
 use vb_world::WorldData;
 
 /// The desk over a vBucket's store, the batch that was taken and isn't committed, and for each stripe the read that
 /// was made and isn't merged.
 pub struct BenchData {
-    pub desk: DeskData<MemoryKeeper>,
+    pub desk: DeskData,
     pub batch: Option<BatchData>,
     pub reads: LinkedList<Option<FetchedData>>,
 }

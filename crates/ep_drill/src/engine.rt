@@ -1,7 +1,7 @@
 // A core, its steps and lists of them.
 ghost use Rattle.std.specs.Prelude.{◌≡◌, ◌+◌, ◌<◌, length, map, slice_get, Some, None, IsSome, IfOk, OnOk, OnErr};
 ghost use Rattle.ep_model.specs.declared.event.PartName.TheVariants.{Stripe};
-ghost use Rattle.ep_model.specs.declared.limits.TheConstants.{MAX_VALUE};
+ghost use Rattle.ep_model.specs.Limits.{max_value};
 ghost use Rattle.vb_world.specs.World.{part_in};
 ghost use Rattle.ep_drill.specs.Callers.{caller_data};
 ghost use Rattle.ep_drill.specs.Fetches.{HasWaiting};
@@ -17,6 +17,7 @@ use crate::stored::{commit_at, merge_at, read_at, take_at};
 use crate::turn::{answer_of, try_next};
 use crate::worked::{mark_at, page_at};
 use ep_model::{Config, NoMemory, Out};
+use kv_keeper::Keeper;
 use std::alloc::Global;
 use std::marker::Model;
 use vb_world::{History, World};
@@ -27,32 +28,32 @@ const END_OF_MOMENTS: u64 = 1 << 62;
 /// The vBuckets of a bucket with all that works on them, in one thread: their parts and histories, the desks over
 /// their stores, and the callers with their calls. It makes one step at a time, in any order that it is told.
 #[derive(Drop)]
-pub struct Core {
+pub struct Core<K: Keeper> {
     pub(crate) config: Config,
     pub(crate) world: World<Part>,
-    pub(crate) benches: Vec<Bench>,
+    pub(crate) benches: Vec<Bench<K>>,
     pub(crate) callers: Vec<Caller>,
     pub(crate) value: Out,
 }
 
-impl Model for Core {
+impl<K: Keeper> Model for Core<K> {
     ghost use Rattle.std.specs.Prelude.{◌≡◌, ◌+◌, length};
     ghost use Rattle.std.specs.Coded.{codes};
-    ghost use Rattle.ep_model.specs.declared.limits.TheConstants.{MAX_VALUE};
-    ghost use Rattle.kv_keeper.specs.Memory.{coded_memory};
+    ghost use Rattle.ep_model.specs.Limits.{max_value};
+    ghost use Rattle.kv_keeper.specs.Content.{coded_keeper};
     ghost use Rattle.ep_drill.specs.declared.data.CoreData.{CoreData};
     ghost use Rattle.ep_drill.specs.Core.{core_data, Interleaves};
 
     ghost Value = { CoreData };
 
-    ghost coded = { Prim.hlevel (codes, coded_memory) };
+    ghost coded = { Prim.hlevel (codes, coded_keeper) };
 
     ghost view = { λ c. core_data c.config c.world c.benches.items c.callers.items };
 
-    ghost invariant = { λ c. Interleaves (core_data c.config c.world c.benches.items c.callers.items) × (c.value.spare + length c.value.bytes ≡ MAX_VALUE) };
+    ghost invariant = { λ c. Interleaves (core_data c.config c.world c.benches.items c.callers.items) × (c.value.spare + length c.value.bytes ≡ max_value) };
 }
 
-impl Core {
+impl<K: Keeper> Core<K> {
     // Tries a caller's next call.
     fn front(&mut self, alloc: Global, number: u16, now: u64) -> Result<Answer, NoMemory>
         ensures interleaves { Interleaves self.new }
@@ -204,9 +205,9 @@ impl Core {
 
 /// Makes steps in order: what each answered. At an error memory was wanting, and some of them were made, from the first
 /// on.
-pub fn run_steps(
+pub fn run_steps<K: Keeper>(
     alloc: Global,
-    core: &mut Core,
+    core: &mut Core<K>,
     steps: &[StepChoice],
 ) -> Result<Vec<Answer>, NoMemory>
     ensures interleaves { Interleaves core.new }

@@ -1,20 +1,19 @@
 // Values that are read back from the store for calls that wait for them.
-ghost use Rattle.std.specs.Prelude.{◌≡◌, ◌+◌, ◌≤◌, true, if◌then◌else◌, length, Some, None, IsSome, IfSome, IfOk, OnErr};
+ghost use Rattle.std.specs.Prelude.{◌≡◌, ◌+◌, ◌≤◌, true, if◌then◌else◌, length, Some, None, IsSome, IfOk, OnErr};
 ghost use Rattle.ep_model.specs.declared.config.Eviction.TheVariants.{Value as ValueEviction};
 ghost use Rattle.ep_model.specs.declared.event.PartName.{PartName};
 ghost use Rattle.ep_model.specs.declared.event.PartName.TheVariants.{Stripe};
-ghost use Rattle.ep_model.specs.declared.limits.TheConstants.{MAX_VALUE};
+ghost use Rattle.ep_model.specs.Limits.{max_value, IsKey};
 ghost use Rattle.ep_model.specs.Legal.{IsLegal};
-ghost use Rattle.ep_model.specs.Limits.{IsKey};
 ghost use Rattle.hold_stage.specs.Touches.{there, is_stripe, same_part};
+ghost use Rattle.hold_stage.specs.Stays.{Stays};
 ghost use Rattle.hold_stage.specs.Grows.{Same, IsNone, but_this};
 ghost use Rattle.kv_keeper.specs.Content.{Content};
 ghost use Rattle.kv_keeper.specs.Desk.{IsSure};
-ghost use Rattle.kv_keeper.specs.Kept.{Rose};
 ghost use Rattle.flat_parts.specs.Nodes.{first_waiting};
 ghost use Rattle.ep_drill.specs.Stands.{StripeStands, DeskStands, FetchedStands};
 ghost use Rattle.ep_drill.specs.Calls.{AreHome, HasRoom, KeptBut};
-ghost use Rattle.ep_drill.specs.Fetches.{found_data, fetched_data, settles, IsOldest, IsFoundIn, IsCounted, IsBack, IsRead, IsMerged, DeskRead, ReadsOldest, HasWaiting, OnFault};
+ghost use Rattle.ep_drill.specs.Fetches.{found_data, fetched_data, settles, IsOldest, IsFoundIn, IsBack, IsRead, IsMerged, Reads, ReadsOldest, HasWaiting};
 
 pub use crate::fetched::{Fetched, Found, Row};
 use crate::hold::{take_desk, take_stripe};
@@ -54,11 +53,9 @@ fn copy_oldest(alloc: Global, part: &FlatStripe) -> Result<Option<(u64, Vec<u8>)
 fn read_found<K: Keeper>(alloc: Global, desk: &mut Desk<K>, key: &[u8], value: &mut Out) -> Found
     requires sure { IsSure desk.old }
     requires key { IsKey key.now }
-    requires value { MAX_VALUE ≤ value.old.spare + length value.old.bytes }
-    ensures found { (c : Content) → K.content desk.old.keeper ≡ Some c → IsFoundIn c key.now (found_data result) }
-    ensures counted { IsCounted desk.old.read_faults desk.new.read_faults (found_data result) }
-    ensures rose { OnFault (found_data result) (Rose (K.faults desk.old.keeper) (K.faults desk.new.keeper)) }
-    ensures desk { (c : Content) → K.content desk.old.keeper ≡ Some c → DeskRead c (K.content desk.new.keeper) desk.old desk.new }
+    requires value { max_value ≤ value.old.spare + length value.old.bytes }
+    ensures found { (c : Content) → desk.old.keeper.content ≡ Some c → IsFoundIn c key.now (found_data result) }
+    ensures reads { Reads desk.old desk.new (found_data result) }
     ensures value { value.new.spare + length value.new.bytes ≡ value.old.spare + length value.old.bytes }
 {
     value.cut(0);
@@ -82,27 +79,24 @@ pub(crate) fn fetch_read<S: Stage<Part = Part>, K: Keeper>(
     stripe: u16,
     value: &mut Out,
 ) -> Result<Option<Fetched>, NoMemory>
-    ghost content: { Content }
     requires there { there (S.front stage.old).config (Stripe stripe) ≡ true }
     requires eviction { (S.front stage.old).config.eviction ≡ ValueEviction }
     requires sure { IsSure desk.old }
-    requires told { K.content desk.old.keeper ≡ Some content }
-    requires desk { DeskStands (S.front stage.old) content desk.old.stored None desk.old.noted desk.old.read_faults }
+    requires tells { IsSome desk.old.keeper.content }
+    requires desk { DeskStands (S.front stage.old) desk.old }
     requires telling { S.is_telling stage.old ≡ true }
     requires home { AreHome (S.front stage.old).config (S.tells stage.old) }
     requires free { IsNone (S.holds stage.old) }
-    requires value { value.old.spare + length value.old.bytes ≡ MAX_VALUE }
-    ensures stays { (S.lent stage.new ≡ S.lent stage.old) × (S.fixed stage.new ≡ S.fixed stage.old) × (S.number stage.new ≡ S.number stage.old) × (S.is_desk stage.new ≡ S.is_desk stage.old) × (S.is_telling stage.new ≡ S.is_telling stage.old) }
+    requires value { value.old.spare + length value.old.bytes ≡ max_value }
+    ensures stays { Stays S.lent S.fixed S.number S.is_desk S.is_telling stage.old stage.new }
     ensures front { S.front stage.new ≡ S.front stage.old }
     ensures oldest { IfOk result (ReadsOldest (S.tells stage.old (Stripe stripe))) }
-    ensures read { IfOk result (IsRead (S.front stage.old) stripe desk.old.read_faults desk.new.read_faults) }
-    ensures rose { IfOk result (λ read. IfSome read (λ fetched. OnFault (found_data fetched.found) (Rose (K.faults desk.old.keeper) (K.faults desk.new.keeper)))) }
+    ensures read { IfOk result (IsRead (S.front stage.old) stripe desk.old desk.new) }
     ensures err { OnErr result ((desk.new ≡ desk.old) × HasWaiting (S.tells stage.old (Stripe stripe))) }
     ensures parts { (p : PartName) → there (S.front stage.old).config p ≡ true → S.tells stage.new p ≡ S.tells stage.old p }
-    ensures desk { DeskRead content (K.content desk.new.keeper) desk.old desk.new }
     ensures free { Same (S.holds stage.new) (S.holds stage.old) }
     ensures home { AreHome (S.front stage.old).config (S.tells stage.new) }
-    ensures value { value.new.spare + length value.new.bytes ≡ MAX_VALUE }
+    ensures value { value.new.spare + length value.new.bytes ≡ max_value }
 {
     let part = take_stripe(stage, stripe);
     let oldest = copy_oldest(alloc, &part);
@@ -141,7 +135,7 @@ fn settle<S: Stage<Part = Part>>(
 )
     requires held { S.holds stage.old (Stripe ticket.stripe) ≡ true }
     requires stands { StripeStands (S.front stage.old) ticket.stripe (settles part ticket.number outcome) }
-    ensures stays { (S.lent stage.new ≡ S.lent stage.old) × (S.fixed stage.new ≡ S.fixed stage.old) × (S.number stage.new ≡ S.number stage.old) × (S.is_desk stage.new ≡ S.is_desk stage.old) × (S.is_telling stage.new ≡ S.is_telling stage.old) }
+    ensures stays { Stays S.lent S.fixed S.number S.is_desk S.is_telling stage.old stage.new }
     ensures front { S.front stage.new ≡ S.front stage.old }
     ensures held { Same (S.holds stage.new) (but_this (Stripe ticket.stripe) (S.holds stage.old)) }
     ensures tells { S.is_telling stage.old ≡ true → (p : PartName) → there (S.front stage.old).config p ≡ true → S.tells stage.new p ≡ (if same_part (Stripe ticket.stripe) p then Some (Part.Stripe (settles part ticket.number outcome)) else S.tells stage.old p) }
@@ -161,7 +155,7 @@ pub(crate) fn fetch_merge<S: Stage<Part = Part>>(stage: &mut S, fetched: Fetched
     requires home { AreHome (S.front stage.old).config (S.tells stage.old) }
     requires free { IsNone (S.holds stage.old) }
     requires room { HasRoom 0 (S.covers stage.old) }
-    ensures stays { (S.lent stage.new ≡ S.lent stage.old) × (S.fixed stage.new ≡ S.fixed stage.old) × (S.number stage.new ≡ S.number stage.old) × (S.is_desk stage.new ≡ S.is_desk stage.old) × (S.is_telling stage.new ≡ S.is_telling stage.old) }
+    ensures stays { Stays S.lent S.fixed S.number S.is_desk S.is_telling stage.old stage.new }
     ensures merged { IsMerged (S.front stage.old) (S.front stage.new) (S.tells stage.old (Stripe fetched.ticket.stripe)) (S.tells stage.new (Stripe fetched.ticket.stripe)) (fetched_data fetched) result }
     ensures kept { KeptBut (S.front stage.old).config (is_stripe fetched.ticket.stripe) (S.tells stage.old) (S.tells stage.new) }
     ensures free { Same (S.holds stage.new) (S.holds stage.old) }

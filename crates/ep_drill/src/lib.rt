@@ -9,6 +9,7 @@ mod engine;
 mod fetch;
 mod fetched;
 mod hold;
+mod mark;
 mod open;
 mod owned;
 mod part;
@@ -24,9 +25,10 @@ pub use choice::{Answer, StepChoice, Tried};
 pub use data::{BenchData, CallerData, CoreData, FetchedData, FoundData};
 pub use engine::{Core, run_steps};
 pub use fetch::Merging;
+pub use mark::Marking;
 pub use owned::{Caller, Loaded, OwnedCall, OwnedKey, OwnedSet};
 pub use part::{DeskPart, Part};
-pub use store::{Flushed, Marking, Paged};
+pub use store::{Flushed, Paged};
 
 #[cfg(test)]
 mod tests;

@@ -6,6 +6,7 @@ ghost use Rattle.ep_model.specs.declared.event.PartName.{PartName};
 ghost use Rattle.ep_model.specs.Config.{config_fault};
 ghost use Rattle.ep_model.specs.Front.{with_event, with_start, empty_start};
 ghost use Rattle.hold_stage.specs.Touches.{there};
+ghost use Rattle.hold_stage.specs.Stays.{Stays};
 ghost use Rattle.hold_stage.specs.Grows.{Same, IsNone};
 ghost use Rattle.vb_world.specs.World.{part_in, StandBare, Sound};
 ghost use Rattle.ep_drill.specs.Parts.{part_stands};
@@ -27,7 +28,7 @@ fn take_stripes<S: Stage<Part = Part>>(stage: &mut S, stripes: u16)
     requires telling { S.is_telling stage.old ≡ true }
     requires home { AreHome (S.front stage.old).config (S.tells stage.old) }
     requires free { IsNone (S.holds stage.old) }
-    ensures stays { (S.lent stage.new ≡ S.lent stage.old) × (S.fixed stage.new ≡ S.fixed stage.old) × (S.number stage.new ≡ S.number stage.old) × (S.is_desk stage.new ≡ S.is_desk stage.old) × (S.is_telling stage.new ≡ S.is_telling stage.old) }
+    ensures stays { Stays S.lent S.fixed S.number S.is_desk S.is_telling stage.old stage.new }
     ensures room { (n b : ℕ) → S.covers stage.old n b → S.covers stage.new n b }
     ensures front { S.front stage.new ≡ S.front stage.old }
     ensures held { (p : PartName) → S.holds stage.new p ≡ is_below stripes p }
@@ -44,7 +45,7 @@ fn take_all<S: Stage<Part = Part>>(stage: &mut S, stripes: u16)
     requires telling { S.is_telling stage.old ≡ true }
     requires home { AreHome (S.front stage.old).config (S.tells stage.old) }
     requires free { IsNone (S.holds stage.old) }
-    ensures stays { (S.lent stage.new ≡ S.lent stage.old) × (S.fixed stage.new ≡ S.fixed stage.old) × (S.number stage.new ≡ S.number stage.old) × (S.is_desk stage.new ≡ S.is_desk stage.old) × (S.is_telling stage.new ≡ S.is_telling stage.old) }
+    ensures stays { Stays S.lent S.fixed S.number S.is_desk S.is_telling stage.old stage.new }
     ensures room { (n b : ℕ) → S.covers stage.old n b → S.covers stage.new n b }
     ensures front { S.front stage.new ≡ S.front stage.old }
     ensures held { (p : PartName) → S.holds stage.new p ≡ there (S.front stage.old).config p }
@@ -60,7 +61,7 @@ fn give_stripes<S: Stage<Part = Part>>(alloc: Global, stage: &mut S, stripes: u1
     requires opened { IsNew (S.front stage.old) }
     requires telling { S.is_telling stage.old ≡ true }
     requires held { (p : PartName) → S.holds stage.old p ≡ there (S.front stage.old).config p }
-    ensures stays { (S.lent stage.new ≡ S.lent stage.old) × (S.fixed stage.new ≡ S.fixed stage.old) × (S.number stage.new ≡ S.number stage.old) × (S.is_desk stage.new ≡ S.is_desk stage.old) × (S.is_telling stage.new ≡ S.is_telling stage.old) }
+    ensures stays { Stays S.lent S.fixed S.number S.is_desk S.is_telling stage.old stage.new }
     ensures front { S.front stage.new ≡ S.front stage.old }
     ensures held { (p : PartName) → S.holds stage.new p ≡ (not (is_below stripes p) && S.holds stage.old p) }
     ensures home { (p : PartName) → is_below stripes p ≡ true → IsSome (S.tells stage.new p) }
@@ -78,7 +79,7 @@ fn give_all<S: Stage<Part = Part>>(alloc: Global, stage: &mut S, stripes: u16)
     requires opened { IsNew (S.front stage.old) }
     requires telling { S.is_telling stage.old ≡ true }
     requires held { (p : PartName) → S.holds stage.old p ≡ there (S.front stage.old).config p }
-    ensures stays { (S.lent stage.new ≡ S.lent stage.old) × (S.fixed stage.new ≡ S.fixed stage.old) × (S.number stage.new ≡ S.number stage.old) × (S.is_desk stage.new ≡ S.is_desk stage.old) × (S.is_telling stage.new ≡ S.is_telling stage.old) }
+    ensures stays { Stays S.lent S.fixed S.number S.is_desk S.is_telling stage.old stage.new }
     ensures front { S.front stage.new ≡ S.front stage.old }
     ensures free { IsNone (S.holds stage.new) }
     ensures home { AreHome (S.front stage.old).config (S.tells stage.new) }
@@ -100,7 +101,7 @@ fn open_parts<S: Stage<Part = Part>>(alloc: Global, stage: &mut S, stripes: u16)
     requires home { AreHome (S.front stage.old).config (S.tells stage.old) }
     requires free { IsNone (S.holds stage.old) }
     requires room { HasRoom 0 (S.covers stage.old) }
-    ensures stays { (S.lent stage.new ≡ S.lent stage.old) × (S.fixed stage.new ≡ S.fixed stage.old) × (S.number stage.new ≡ S.number stage.old) × (S.is_desk stage.new ≡ S.is_desk stage.old) × (S.is_telling stage.new ≡ S.is_telling stage.old) }
+    ensures stays { Stays S.lent S.fixed S.number S.is_desk S.is_telling stage.old stage.new }
     ensures front { S.front stage.new ≡ with_event (with_start (S.front stage.old) (Some empty_start)) Opened }
     ensures free { Same (S.holds stage.new) (S.holds stage.old) }
     ensures home { AreHome (S.front stage.old).config (S.tells stage.new) }

@@ -18,7 +18,7 @@ use crate::owned::{Caller, Loaded, OwnedCall, OwnedKey, OwnedSet};
 use crate::part::Part;
 use ep_model::limits::MAX_VALUE;
 use ep_model::{Call, Config, NoMemory, OpenFault, Out};
-use kv_keeper::{Desk, MemoryKeeper};
+use kv_keeper::{Desk, Keeper};
 use std::alloc::Global;
 use vb_world::World;
 
@@ -130,13 +130,14 @@ fn open_world(alloc: Global, config: &Config) -> Result<World<Part>, NoMemory>
 }
 
 // A bench over each keeper, with the reads that go with it; the keepers come back where memory is wanting.
-fn benches_of(
+fn benches_of<K: Keeper>(
     alloc: Global,
-    keepers: Vec<MemoryKeeper>,
+    keepers: Vec<K>,
     reads: Vec<Vec<Option<Fetched>>>,
-) -> Result<Vec<Bench>, Vec<MemoryKeeper>>
+) -> Result<Vec<Bench<K>>, Vec<K>>
+    requires { AreFresh (map K.seen keepers.items) }
     ensures ok { (stripes : ℕ) → map reads_in reads.items ≡ copies (length keepers.items) (copies stripes None) →
-        IfOk result (λ benches. map bench_data benches.items ≡ map (bench_over (copies stripes None)) keepers.items) }
+        IfOk result (λ benches. map bench_data benches.items ≡ map (bench_over (copies stripes None)) (map K.seen keepers.items)) }
     ensures err { IfErr result (λ back. back.items ≡ keepers.items) }
 {
     let Ok(mut benches) = Vec::with_capacity(alloc, keepers.len()) else {
@@ -152,23 +153,23 @@ fn benches_of(
     Ok(benches)
 }
 
-impl Core {
-    /// A core of new vBuckets, each opened over its keeper, which holds nothing yet, and callers with nothing to call.
+impl<K: Keeper> Core<K> {
+    /// A core of new vBuckets, each opened over its keeper, which tells that it holds nothing yet, and callers with nothing to call.
     /// Where the layout is out of its limits, or memory is wanting, the keepers come back.
     pub fn new(
         alloc: Global,
         config: &Config,
-        keepers: Vec<MemoryKeeper>,
+        keepers: Vec<K>,
         callers: u16,
-    ) -> Result<Core, (OpenFault, Vec<MemoryKeeper>)>
+    ) -> Result<Core<K>, (OpenFault, Vec<K>)>
         requires eviction { config.now.eviction ≡ ValueEviction }
         requires count { length keepers.items ≡ config.now.vbuckets }
-        requires fresh { AreFresh keepers.items }
+        requires fresh { AreFresh (map K.seen keepers.items) }
         ensures interleaves { IfOk result (λ core. Interleaves core) }
         ensures layout { IfOk result (λ core. core.config ≡ config.now) }
         ensures opened { IfOk result (λ core. FirstOpened config.now config.now.vbuckets core.world) }
         ensures callers { IfOk result (λ core. core.callers ≡ copies callers idle) }
-        ensures benches { IfOk result (λ core. core.benches ≡ map (bench_over (copies config.now.stripes None)) keepers.items) }
+        ensures benches { IfOk result (λ core. core.benches ≡ map (bench_over (copies config.now.stripes None)) (map K.seen keepers.items)) }
         ensures err { IfErr result (λ refused. IsRefusal config.now refused.0 × (refused.1.items ≡ keepers.items)) }
     {
         if let Some(field) = config.fault() {

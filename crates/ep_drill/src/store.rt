@@ -1,43 +1,33 @@
 // What the store's side does to the parts of a vBucket: batches, marks and the pager.
 ghost use Rattle.std.specs.Prelude.{◌≡◌, ◌⊎◌, ◌+◌, ◌-◌, ◌^◌, ◌<◌, ◌≤◌, ◌||◌, ℕ, true, false, if◌then◌else◌, [], length, min, Some, None, IfSome, IfOk, OnOk, OnErr};
-ghost use Rattle.ep_model.specs.declared.data.EventData.TheVariants.{Persisted as PersistedData, Marked as MarkedData};
+ghost use Rattle.ep_model.specs.declared.data.EventData.TheVariants.{Persisted as PersistedData};
 ghost use Rattle.ep_model.specs.declared.event.PartName.{PartName};
 ghost use Rattle.ep_model.specs.declared.event.PartName.TheVariants.{Stripe, Queue, Desk as DeskName};
 ghost use Rattle.ep_model.specs.Front.{world_of, with_event};
 ghost use Rattle.ep_model.specs.Legal.{May, IsLegal};
 ghost use Rattle.ep_model.specs.World.{Docs};
 ghost use Rattle.hold_stage.specs.Touches.{there, is_stripe, is_queue, is_desk};
+ghost use Rattle.hold_stage.specs.Stays.{Stays};
 ghost use Rattle.hold_stage.specs.Grows.{Same, IsNone};
-ghost use Rattle.hold_stage.specs.Mutations.{laid_on};
-ghost use Rattle.kv_keeper.specs.Batch.{laid, AreWithin};
-ghost use Rattle.kv_keeper.specs.Content.{Content};
+ghost use Rattle.ep_model.specs.Mutations.{laid_on};
+ghost use Rattle.kv_keeper.specs.Batch.{laid, AreDistinct, AreWithin};
 ghost use Rattle.kv_keeper.specs.Desk.{IsSure};
-ghost use Rattle.kv_keeper.specs.Kept.{Rose};
 ghost use Rattle.flat_parts.specs.Steps.{page_step};
 ghost use Rattle.ep_drill.specs.Stands.{DeskStands, BatchStands};
 ghost use Rattle.ep_drill.specs.Calls.{AreHome, HasRoom, KeptBut};
 ghost use Rattle.ep_drill.specs.Parts.{Becomes};
-ghost use Rattle.ep_drill.specs.Answers.{rows_of, IsMarked, IsPaged, IsTaken, IsFlushed, OnFailed};
+ghost use Rattle.ep_drill.specs.Answers.{IsPaged, IsTaken, IsFlushed};
 
 use crate::hold::{take_desk, take_queue, take_stripe};
 use crate::part::Part;
 use ep_model::{Event, NoMemory, PartName};
 use flat_parts::FlatQueue;
 use hold_stage::Stage;
-use kv_keeper::{Batch, Desk, Keeper, Kept, MemoryKeeper, StoreState};
+use kv_keeper::{Batch, Desk, Keeper, Kept, StoreState};
 use std::alloc::Global;
 
 /// The version of a store's layout.
 const VERSION: u32 = 1;
-
-/// How a stripe was marked.
-#[derive(Clone, Copy, Debug, PartialEq, Eq)]
-pub enum Marking {
-    /// It knows already what is stored.
-    Idle,
-    /// It knows now that mutations up to this number are stored.
-    Raised(u64),
-}
 
 /// What the pager did in a stripe.
 #[derive(Clone, Copy, Debug, PartialEq, Eq)]
@@ -58,48 +48,13 @@ pub enum Flushed {
     NoMemory,
 }
 
-/// Tells a stripe what is stored, where it doesn't know. It takes no memory.
-pub(crate) fn mark_once<S: Stage<Part = Part>, K: Keeper>(
-    desk: &Desk<K>,
-    stage: &mut S,
-    stripe: u16,
-) -> Marking
-    requires there { there (S.front stage.old).config (Stripe stripe) ≡ true }
-    requires opened { (world_of (S.front stage.old)).opened ≡ true }
-    requires noted { desk.now.noted ≡ (world_of (S.front stage.old)).persisted }
-    requires telling { S.is_telling stage.old ≡ true }
-    requires home { AreHome (S.front stage.old).config (S.tells stage.old) }
-    requires free { IsNone (S.holds stage.old) }
-    requires room { HasRoom 0 (S.covers stage.old) }
-    ensures stays { (S.lent stage.new ≡ S.lent stage.old) × (S.fixed stage.new ≡ S.fixed stage.old) × (S.number stage.new ≡ S.number stage.old) × (S.is_desk stage.new ≡ S.is_desk stage.old) × (S.is_telling stage.new ≡ S.is_telling stage.old) }
-    ensures front { IsMarked (S.front stage.old) (S.front stage.new) stripe desk.now.noted result }
-    ensures raised { Becomes (S.tells stage.old (Stripe stripe)) (S.tells stage.new (Stripe stripe)) (λ x. record x { mark = desk.now.noted }) }
-    ensures kept { KeptBut (S.front stage.old).config (is_stripe stripe) (S.tells stage.old) (S.tells stage.new) }
-    ensures free { Same (S.holds stage.new) (S.holds stage.old) }
-    ensures home { AreHome (S.front stage.old).config (S.tells stage.new) }
-{
-    let noted = desk.noted();
-    let mut part = take_stripe(stage, stripe);
-    if part.marked() == noted {
-        stage.give(PartName::Stripe(stripe), Part::Stripe(part));
-        return Marking::Idle;
-    }
-    stage.note(&Event::Marked {
-        stripe,
-        number: noted,
-    });
-    part.raise(noted);
-    stage.give(PartName::Stripe(stripe), Part::Stripe(part));
-    Marking::Raised(noted)
-}
-
 /// Ejects all values of a stripe that are stored. It takes no memory.
 pub(crate) fn page_once<S: Stage<Part = Part>>(stage: &mut S, stripe: u16) -> Paged
     requires there { there (S.front stage.old).config (Stripe stripe) ≡ true }
     requires telling { S.is_telling stage.old ≡ true }
     requires home { AreHome (S.front stage.old).config (S.tells stage.old) }
     requires free { IsNone (S.holds stage.old) }
-    ensures stays { (S.lent stage.new ≡ S.lent stage.old) × (S.fixed stage.new ≡ S.fixed stage.old) × (S.number stage.new ≡ S.number stage.old) × (S.is_desk stage.new ≡ S.is_desk stage.old) × (S.is_telling stage.new ≡ S.is_telling stage.old) }
+    ensures stays { Stays S.lent S.fixed S.number S.is_desk S.is_telling stage.old stage.new }
     ensures front { S.front stage.new ≡ S.front stage.old }
     ensures paged { IsPaged (S.tells stage.old (Stripe stripe)) (S.tells stage.new (Stripe stripe)) result }
     ensures kept { KeptBut (S.front stage.old).config (is_stripe stripe) (S.tells stage.old) (S.tells stage.new) }
@@ -114,7 +69,8 @@ pub(crate) fn page_once<S: Stage<Part = Part>>(stage: &mut S, stripe: u16) -> Pa
 
 // Puts a queue's mutations into a batch, each in place of an earlier one of its key.
 fn fill(queue: &FlatQueue, batch: &mut Batch) -> Result<(), NoMemory>
-    ensures rows { OnOk result (batch.new.rows ≡ rows_of batch.old.rows queue.now.items) }
+    requires { AreDistinct batch.old.rows }
+    ensures distinct { AreDistinct batch.new.rows }
     ensures laid { OnOk result ((docs : Docs) → laid batch.new.rows docs ≡ laid_on (laid batch.old.rows docs) queue.now.items) }
     ensures to { batch.new.to ≡ batch.old.to }
     ensures maxcas { batch.new.maxcas ≡ batch.old.maxcas }
@@ -138,9 +94,10 @@ pub(crate) fn take_batch<S: Stage<Part = Part>, K: Keeper>(
     requires telling { S.is_telling stage.old ≡ true }
     requires home { AreHome (S.front stage.old).config (S.tells stage.old) }
     requires free { IsNone (S.holds stage.old) }
-    ensures stays { (S.lent stage.new ≡ S.lent stage.old) × (S.fixed stage.new ≡ S.fixed stage.old) × (S.number stage.new ≡ S.number stage.old) × (S.is_desk stage.new ≡ S.is_desk stage.old) × (S.is_telling stage.new ≡ S.is_telling stage.old) }
+    ensures stays { Stays S.lent S.fixed S.number S.is_desk S.is_telling stage.old stage.new }
     ensures front { S.front stage.new ≡ S.front stage.old }
     ensures taken { IfOk result (IsTaken (S.front stage.old) desk.now.stored) }
+    ensures err { OnErr result ((world_of (S.front stage.old)).high ≡ (world_of (S.front stage.old)).persisted → ⊥) }
     ensures parts { (p : PartName) → there (S.front stage.old).config p ≡ true → S.tells stage.new p ≡ S.tells stage.old p }
     ensures free { Same (S.holds stage.new) (S.holds stage.old) }
     ensures home { AreHome (S.front stage.old).config (S.tells stage.new) }
@@ -160,15 +117,14 @@ pub(crate) fn take_batch<S: Stage<Part = Part>, K: Keeper>(
 }
 
 /// Commits a batch, and notes that where it is done.
-pub(crate) fn commit_batch<S: Stage<Part = Part>>(
+pub(crate) fn commit_batch<S: Stage<Part = Part>, K: Keeper>(
     alloc: Global,
-    desk: &mut Desk<MemoryKeeper>,
+    desk: &mut Desk<K>,
     stage: &mut S,
     batch: &Batch,
 ) -> Flushed
-    requires sure { desk.old.doubt ≡ None }
-    requires desk { DeskStands (S.front stage.old) desk.old.keeper.content desk.old.stored None desk.old.noted desk.old.read_faults }
-    requires known { desk.old.stored ≡ (world_of (S.front stage.old)).persisted }
+    requires sure { IsSure desk.old }
+    requires desk { DeskStands (S.front stage.old) desk.old }
     requires batch { BatchStands (S.front stage.old) desk.old.stored batch.now }
     requires within { AreWithin batch.now.rows }
     requires legal { IsLegal (S.front stage.old) }
@@ -177,9 +133,8 @@ pub(crate) fn commit_batch<S: Stage<Part = Part>>(
     requires home { AreHome (S.front stage.old).config (S.tells stage.old) }
     requires free { IsNone (S.holds stage.old) }
     requires room { HasRoom 0 (S.covers stage.old) }
-    ensures stays { (S.lent stage.new ≡ S.lent stage.old) × (S.fixed stage.new ≡ S.fixed stage.old) × (S.number stage.new ≡ S.number stage.old) × (S.is_desk stage.new ≡ S.is_desk stage.old) × (S.is_telling stage.new ≡ S.is_telling stage.old) }
-    ensures flushed { IsFlushed (S.front stage.old) (S.front stage.new) (Some desk.new.keeper.content) desk.old desk.new batch.now result }
-    ensures rose { OnFailed result (Rose desk.old.keeper.faults desk.new.keeper.faults) }
+    ensures stays { Stays S.lent S.fixed S.number S.is_desk S.is_telling stage.old stage.new }
+    ensures flushed { IsFlushed (S.front stage.old) (S.front stage.new) desk.old desk.new batch.now result }
     ensures kept { KeptBut (S.front stage.old).config (λ p. is_queue p || is_desk p) (S.tells stage.old) (S.tells stage.new) }
     ensures free { Same (S.holds stage.new) (S.holds stage.old) }
     ensures home { AreHome (S.front stage.old).config (S.tells stage.new) }

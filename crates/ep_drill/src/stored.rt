@@ -1,7 +1,7 @@
 // Steps at the bench of one vBucket of a world, each with room for the event that it notes.
 ghost use Rattle.std.specs.Prelude.{◌≡◌, ◌+◌, ◌<◌, length, slice_get, IsSome, Some, None, IfOk, OnErr};
 ghost use Rattle.ep_model.specs.declared.event.PartName.TheVariants.{Stripe};
-ghost use Rattle.ep_model.specs.declared.limits.TheConstants.{MAX_VALUE};
+ghost use Rattle.ep_model.specs.Limits.{max_value};
 ghost use Rattle.vb_world.specs.World.{front_in, part_in, Sound};
 ghost use Rattle.ep_drill.specs.Parts.{part_stands};
 ghost use Rattle.ep_drill.specs.Fetches.{HasWaiting};
@@ -15,18 +15,19 @@ use crate::part::Part;
 use crate::store::{Flushed, commit_batch, take_batch};
 use crate::worked::WORKER;
 use ep_model::{Config, NoMemory, Out};
+use kv_keeper::Keeper;
 use std::alloc::Global;
 use std::mem;
 use vb_world::World;
 
 /// Copies what isn't stored yet, in place of a batch that isn't committed: how many documents. Where it is in doubt
 /// what the store holds, nothing is copied.
-pub(crate) fn take_at(
+pub(crate) fn take_at<K: Keeper>(
     alloc: Global,
     config: &Config,
     world: &mut World<Part>,
     vb: u16,
-    bench: &mut Bench,
+    bench: &mut Bench<K>,
 ) -> Answer
     requires ready { Ready config.now world.old }
     requires vb { vb < config.now.vbuckets }
@@ -55,13 +56,14 @@ pub(crate) fn take_at(
     }
 }
 
-/// Commits the batch: nothing is done where there is none. Where memory is wanting the batch stays.
-pub(crate) fn commit_at(
+/// Commits the batch, which is used up then: nothing is done where there is none. At an error nothing was done, and
+/// the batch stays.
+pub(crate) fn commit_at<K: Keeper>(
     alloc: Global,
     config: &Config,
     world: &mut World<Part>,
     vb: u16,
-    bench: &mut Bench,
+    bench: &mut Bench<K>,
 ) -> Result<Answer, NoMemory>
     requires ready { Ready config.now world.old }
     requires vb { vb < config.now.vbuckets }
@@ -84,23 +86,16 @@ pub(crate) fn commit_at(
     let mut stage = world.stage(vb, WORKER);
     let flushed = commit_batch(alloc, &mut bench.desk, &mut stage, &batch);
     let _count = world.count();
-    match flushed {
-        Flushed::Stored(number) => Ok(Answer::Flushed(Flushed::Stored(number))),
-        Flushed::Failed => Ok(Answer::Flushed(Flushed::Failed)),
-        Flushed::NoMemory => {
-            bench.batch = Some(batch);
-            Ok(Answer::Flushed(Flushed::NoMemory))
-        }
-    }
+    Ok(Answer::Flushed(flushed))
 }
 
 // Reads for a stripe of a vBucket where it isn't in doubt what the store holds.
-fn read_sure(
+fn read_sure<K: Keeper>(
     alloc: Global,
     config: &Config,
     world: &mut World<Part>,
     vb: u16,
-    bench: &mut Bench,
+    bench: &mut Bench<K>,
     stripe: u16,
     value: &mut Out,
 ) -> Result<Answer, NoMemory>
@@ -110,13 +105,13 @@ fn read_sure(
     requires sound { Sound part_stands world.old }
     requires sure { bench.old.desk.doubt ≡ None }
     requires bench { BenchStands (front_in world.old vb) (bench_data bench.old) }
-    requires value { value.old.spare + length value.old.bytes ≡ MAX_VALUE }
+    requires value { value.old.spare + length value.old.bytes ≡ max_value }
     ensures ok { IfOk result (λ answer. Fetches config.now vb stripe answer world.old world.new (bench_data bench.old) (bench_data bench.new)) }
     ensures err { OnErr result (Rested config.now world.old world.new × (bench_data bench.new ≡ bench_data bench.old) × ((bench_data bench.old).desk.doubt ≡ None) × HasWaiting (part_in world.old vb (Stripe stripe))) }
     ensures moved { Moved config.now vb None world.old world.new }
     ensures bench { BenchStands (front_in world.new vb) (bench_data bench.new) }
     ensures sound { Sound part_stands world.new }
-    ensures value { value.new.spare + length value.new.bytes ≡ MAX_VALUE }
+    ensures value { value.new.spare + length value.new.bytes ≡ max_value }
 {
     let mut stage = world.stage(vb, WORKER);
     let read = fetch_read(alloc, &mut bench.desk, &mut stage, stripe, value);
@@ -133,12 +128,12 @@ fn read_sure(
 
 /// Reads the document of the oldest call that waits in a stripe: whether one waits. What was read before and isn't
 /// merged is dropped then. Where it is in doubt what the store holds, nothing is done.
-pub(crate) fn read_at(
+pub(crate) fn read_at<K: Keeper>(
     alloc: Global,
     config: &Config,
     world: &mut World<Part>,
     vb: u16,
-    bench: &mut Bench,
+    bench: &mut Bench<K>,
     stripe: u16,
     value: &mut Out,
 ) -> Result<Answer, NoMemory>
@@ -147,13 +142,13 @@ pub(crate) fn read_at(
     requires stripe { stripe < config.now.stripes }
     requires sound { Sound part_stands world.old }
     requires bench { BenchStands (front_in world.old vb) (bench_data bench.old) }
-    requires value { value.old.spare + length value.old.bytes ≡ MAX_VALUE }
+    requires value { value.old.spare + length value.old.bytes ≡ max_value }
     ensures ok { IfOk result (λ answer. Fetches config.now vb stripe answer world.old world.new (bench_data bench.old) (bench_data bench.new)) }
     ensures err { OnErr result (Rested config.now world.old world.new × (bench_data bench.new ≡ bench_data bench.old) × ((bench_data bench.old).desk.doubt ≡ None) × HasWaiting (part_in world.old vb (Stripe stripe))) }
     ensures moved { Moved config.now vb None world.old world.new }
     ensures bench { BenchStands (front_in world.new vb) (bench_data bench.new) }
     ensures sound { Sound part_stands world.new }
-    ensures value { value.new.spare + length value.new.bytes ≡ MAX_VALUE }
+    ensures value { value.new.spare + length value.new.bytes ≡ max_value }
 {
     if !bench.desk.is_sure() {
         return Ok(Answer::Nothing);
@@ -163,11 +158,11 @@ pub(crate) fn read_at(
 
 /// Ends a read for whoever still waits for it: nothing is done where there is none. Where memory is wanting the read
 /// stays.
-pub(crate) fn merge_at(
+pub(crate) fn merge_at<K: Keeper>(
     config: &Config,
     world: &mut World<Part>,
     vb: u16,
-    bench: &mut Bench,
+    bench: &mut Bench<K>,
     stripe: u16,
 ) -> Result<Answer, NoMemory>
     requires ready { Ready config.now world.old }

@@ -43,7 +43,7 @@ fn front(caller: u16) -> StepChoice {
 }
 
 /// A core of two callers, whose store fails at these reads.
-fn core_of(alloc: Global, fails: &[u64]) -> Result<Core, NoMemory>
+fn core_of(alloc: Global, fails: &[u64]) -> Result<Core<MemoryKeeper>, NoMemory>
     ensures callers { IfOk result (λ core. length core.callers ≡ 2) }
     ensures vbuckets { IfOk result (λ core. core.config.vbuckets ≡ 1) }
 {
@@ -56,7 +56,12 @@ fn core_of(alloc: Global, fails: &[u64]) -> Result<Core, NoMemory>
 }
 
 /// A caller is to get a key.
-fn load_get(alloc: Global, core: &mut Core, caller: u16, key: &[u8]) -> Result<(), NoMemory>
+fn load_get(
+    alloc: Global,
+    core: &mut Core<MemoryKeeper>,
+    caller: u16,
+    key: &[u8],
+) -> Result<(), NoMemory>
     requires key { IsKey key.now }
     requires caller { caller < length core.old.callers }
     requires vb { 0 < core.old.config.vbuckets }
@@ -68,7 +73,7 @@ fn load_get(alloc: Global, core: &mut Core, caller: u16, key: &[u8]) -> Result<(
 /// A caller is to set a key.
 fn load_set(
     alloc: Global,
-    core: &mut Core,
+    core: &mut Core<MemoryKeeper>,
     caller: u16,
     key: &[u8],
     value: &[u8],
@@ -108,7 +113,7 @@ fn without_stamp(answer: Answer) -> Seen {
 fn expect(
     rt: &impl Abort,
     alloc: Global,
-    core: &mut Core,
+    core: &mut Core<MemoryKeeper>,
     steps: &[StepChoice],
     wanted: &[Seen],
 ) -> Result<(), NoMemory> {
@@ -121,7 +126,7 @@ fn expect(
 }
 
 /// The last event of a core is a call that was answered, and showed this value.
-fn shows_last(core: Core, wanted: &[u8]) -> bool {
+fn shows_last(core: Core<MemoryKeeper>, wanted: &[u8]) -> bool {
     let history = core.into_history();
     if history.count() == 0 {
         return false;

@@ -5,15 +5,16 @@ ghost use Rattle.ep_model.specs.declared.config.Eviction.TheVariants.{Value as V
 ghost use Rattle.ep_model.specs.declared.data.CallData.TheVariants.{Get as GetData, Store as StoreData};
 ghost use Rattle.ep_model.specs.declared.event.PartName.{PartName};
 ghost use Rattle.ep_model.specs.declared.event.PartName.TheVariants.{Stripe, Queue};
-ghost use Rattle.ep_model.specs.declared.limits.TheConstants.{MAX_KEY, MAX_VALUE};
+ghost use Rattle.ep_model.specs.Limits.{max_key, max_value, IsKey, IsValue, IsWithin};
 ghost use Rattle.ep_model.specs.Config.{fit_of};
 ghost use Rattle.ep_model.specs.History.{call_data};
 ghost use Rattle.ep_model.specs.Legal.{May, IsLegal};
-ghost use Rattle.ep_model.specs.Limits.{IsKey, IsValue, IsWithin};
 ghost use Rattle.hold_stage.specs.Touches.{there, touches_call, bytes_of};
+ghost use Rattle.hold_stage.specs.Stays.{Stays};
 ghost use Rattle.hold_stage.specs.Grows.{Same, IsNone, Covered, IsOwn};
 ghost use Rattle.ep_drill.specs.Stands.{PriorsStand};
-ghost use Rattle.ep_drill.specs.Calls.{is_prior, event_of, noted, AreHome, HasRoom, KeptBut};
+ghost use Rattle.hold_stage.specs.Went.{noted};
+ghost use Rattle.ep_drill.specs.Calls.{is_prior, event_of, AreHome, HasRoom, KeptBut};
 ghost use Rattle.ep_drill.specs.Tries.{Gets, Sets};
 
 use crate::hold::{take_queue, take_stripe};
@@ -52,7 +53,7 @@ fn note_step<S: Stage<Part = Part>>(
     requires bytes { IfSome (event_of (S.number stage.old) (call_data call.now) now prior value.now step) (λ e. bytes_of e ≤ EVENT_BYTES) }
     requires legal { IsLegal (S.front stage.old) }
     requires room { HasRoom EVENT_BYTES (S.covers stage.old) }
-    ensures stays { (S.lent stage.new ≡ S.lent stage.old) × (S.fixed stage.new ≡ S.fixed stage.old) × (S.number stage.new ≡ S.number stage.old) × (S.is_desk stage.new ≡ S.is_desk stage.old) × (S.is_telling stage.new ≡ S.is_telling stage.old) }
+    ensures stays { Stays S.lent S.fixed S.number S.is_desk S.is_telling stage.old stage.new }
     ensures front { S.front stage.new ≡ noted (S.front stage.old) (event_of (S.number stage.old) (call_data call.now) now prior value.now step) }
     ensures legal { IsLegal (S.front stage.new) }
     ensures held { Same (S.holds stage.new) (S.holds stage.old) }
@@ -104,8 +105,8 @@ pub(crate) fn try_get<S: Stage<Part = Part>>(
     requires room { HasRoom EVENT_BYTES (S.covers stage.old) }
     requires key { IsKey key.now }
     requires prior { PriorsStand (S.front stage.old) (S.number stage.old) (GetData key.now) prior }
-    requires value { (value.old.bytes ≡ []) × (value.old.spare ≡ MAX_VALUE) }
-    ensures stays { (S.lent stage.new ≡ S.lent stage.old) × (S.fixed stage.new ≡ S.fixed stage.old) × (S.number stage.new ≡ S.number stage.old) × (S.is_desk stage.new ≡ S.is_desk stage.old) × (S.is_telling stage.new ≡ S.is_telling stage.old) }
+    requires value { (value.old.bytes ≡ []) × (value.old.spare ≡ max_value) }
+    ensures stays { Stays S.lent S.fixed S.number S.is_desk S.is_telling stage.old stage.new }
     ensures front { IfOk result (λ step. S.front stage.new ≡ noted (S.front stage.old) (event_of (S.number stage.old) (GetData key.now) now prior value.new.bytes step)) }
     ensures comes { IfOk result (Gets stripes (S.tells stage.old) (S.tells stage.new) prior key.now now) }
     ensures kept { KeptBut (S.front stage.old).config (touches_call (S.front stage.old).config (GetData key.now)) (S.tells stage.old) (S.tells stage.new) }
@@ -113,7 +114,7 @@ pub(crate) fn try_get<S: Stage<Part = Part>>(
     ensures parts { OnErr result ((p : PartName) → there (S.front stage.old).config p ≡ true → S.tells stage.new p ≡ S.tells stage.old p) }
     ensures free { Same (S.holds stage.new) (S.holds stage.old) }
     ensures home { AreHome (S.front stage.old).config (S.tells stage.new) }
-    ensures value { value.new.spare + length value.new.bytes ≡ MAX_VALUE }
+    ensures value { value.new.spare + length value.new.bytes ≡ max_value }
 {
     let stripe = stripe_of(key, stripes);
     let mut part = take_stripe(stage, stripe);
@@ -151,7 +152,7 @@ pub(crate) fn try_set<S: Stage<Part = Part>>(
     requires key { IsKey key.now }
     requires value { IsValue value.now }
     requires moment { now < 2 ^ 62 }
-    ensures stays { (S.lent stage.new ≡ S.lent stage.old) × (S.fixed stage.new ≡ S.fixed stage.old) × (S.number stage.new ≡ S.number stage.old) × (S.is_desk stage.new ≡ S.is_desk stage.old) × (S.is_telling stage.new ≡ S.is_telling stage.old) }
+    ensures stays { Stays S.lent S.fixed S.number S.is_desk S.is_telling stage.old stage.new }
     ensures front { IfOk result (λ step. S.front stage.new ≡ noted (S.front stage.old) (event_of (S.number stage.old) (StoreData SetKind key.now value.now flags expiration cas) now prior [] step)) }
     ensures comes { IfOk result (Sets config.now.stripes (fit_of config.now) (S.tells stage.old) (S.tells stage.new) prior key.now value.now flags expiration cas now) }
     ensures kept { KeptBut config.now (touches_call config.now (StoreData SetKind key.now value.now flags expiration cas)) (S.tells stage.old) (S.tells stage.new) }

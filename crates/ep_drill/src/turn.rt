@@ -1,10 +1,10 @@
 // A caller's turn: its next call is tried.
 ghost use Rattle.std.specs.Prelude.{◌≡◌, ◌+◌, ◌^◌, ◌<◌, length, Some, None, IsSome, IfOk, OnErr};
 ghost use Rattle.std.specs.List.{AllByRecursion};
-ghost use Rattle.ep_model.specs.declared.limits.TheConstants.{MAX_VALUE};
+ghost use Rattle.ep_model.specs.Limits.{max_value};
 ghost use Rattle.vb_world.specs.World.{front_in, Sound};
 ghost use Rattle.ep_drill.specs.Parts.{part_stands};
-ghost use Rattle.ep_drill.specs.Callers.{CallerStands, caller_data, next_of, after_step, refusal, tried_of};
+ghost use Rattle.ep_drill.specs.Callers.{CallerStands, caller_data, next_of, after_step, tried_of};
 ghost use Rattle.ep_drill.specs.Core.{IsOn, Ready, Rested, Turned};
 ghost use Rattle.ep_drill.specs.Stepped.{answer_of};
 
@@ -12,33 +12,10 @@ use crate::choice::{Answer, Tried};
 use crate::owned::Caller;
 use crate::part::Part;
 use crate::worked::try_loaded;
-use ep_model::{Cause, Config, NoMemory, Out, Reply};
+use ep_model::{Config, NoMemory, Out, Reply};
 use flat_parts::Step;
 use std::alloc::Global;
 use vb_world::World;
-
-/// The status of a call that is refused for now.
-const TEMPORARY_FAILURE: u16 = 0x86;
-
-/// The status of a call for which memory is wanting.
-const OUT_OF_MEMORY: u16 = 0x82;
-
-// What a caller is told of a refusal.
-fn refusal(cause: Cause) -> Reply
-    ensures { result ≡ refusal cause }
-{
-    let status = match cause {
-        Cause::Memory(_) => OUT_OF_MEMORY,
-        Cause::Quota | Cause::Warming | Cause::Store(_) => TEMPORARY_FAILURE,
-    };
-    Reply {
-        status,
-        cas: 0,
-        flags: 0,
-        uuid: 0,
-        seqno: 0,
-    }
-}
 
 // What a caller is told of what its call came to.
 fn tried_of(step: Step) -> Tried
@@ -46,7 +23,7 @@ fn tried_of(step: Step) -> Tried
 {
     match step {
         Step::Done(reply) => Tried::Done(reply),
-        Step::Refused(cause) => Tried::Done(refusal(cause)),
+        Step::Refused(cause) => Tried::Done(Reply::refusal(cause.status())),
         Step::Fetch(ticket) => Tried::Fetch(ticket),
         Step::FetchFull => Tried::FetchFull,
     }
@@ -93,11 +70,11 @@ pub(crate) fn try_next(
     requires stands { CallerStands (front_in world.old) number (caller_data caller.old) }
     requires loaded { AllByRecursion (IsOn config.now) (caller_data caller.old).calls }
     requires moment { now < 2 ^ 62 }
-    requires value { value.old.spare + length value.old.bytes ≡ MAX_VALUE }
+    requires value { value.old.spare + length value.old.bytes ≡ max_value }
     ensures ok { IfOk result (Turned config.now number now world.old world.new (caller_data caller.old) (caller_data caller.new) value.new.bytes) }
     ensures err { OnErr result (Rested config.now world.old world.new × (caller_data caller.new ≡ caller_data caller.old) × IsSome (next_of (caller_data caller.old))) }
     ensures sound { Sound part_stands world.new }
-    ensures value { value.new.spare + length value.new.bytes ≡ MAX_VALUE }
+    ensures value { value.new.spare + length value.new.bytes ≡ max_value }
 {
     let Some(loaded) = caller.calls.get(caller.answered) else {
         return Ok(None);

@@ -3,10 +3,9 @@ ghost use Rattle.std.specs.Prelude.{◌≡◌, ◌+◌, ◌^◌, ◌<◌, ◌≤
 ghost use Rattle.ep_model.specs.declared.call.StoreKind.TheVariants.{Set as SetKind};
 ghost use Rattle.ep_model.specs.declared.data.CallData.TheVariants.{Get as GetData, Store as StoreData};
 ghost use Rattle.ep_model.specs.declared.event.PartName.TheVariants.{Stripe};
-ghost use Rattle.ep_model.specs.declared.limits.TheConstants.{MAX_VALUE};
+ghost use Rattle.ep_model.specs.Limits.{max_value, IsKey, IsValue};
 ghost use Rattle.ep_model.specs.Config.{fit_of};
 ghost use Rattle.ep_model.specs.Front.{world_of};
-ghost use Rattle.ep_model.specs.Limits.{IsKey, IsValue};
 ghost use Rattle.hold_stage.specs.Touches.{is_stripe, touches_call};
 ghost use Rattle.vb_world.specs.World.{front_in, part_in, Sound};
 ghost use Rattle.ep_drill.specs.Parts.{part_stands};
@@ -20,12 +19,14 @@ ghost use Rattle.ep_drill.specs.Works.{Marks};
 
 use crate::bench::Bench;
 use crate::choice::Answer;
+use crate::mark::mark_once;
 use crate::owned::{Loaded, OwnedCall, OwnedKey, OwnedSet};
 use crate::part::Part;
-use crate::store::{Paged, mark_once, page_once};
+use crate::store::{Paged, page_once};
 use crate::tried::{EVENT_BYTES, try_get, try_set};
 use ep_model::{Config, NoMemory, Out, Ticket};
 use flat_parts::Step;
+use kv_keeper::Keeper;
 use std::alloc::Global;
 use vb_world::World;
 
@@ -47,13 +48,13 @@ fn get_at(
     requires ready { Ready config.now world.old }
     requires vb { vb < config.now.vbuckets }
     requires prior { PriorsStand (front_in world.old vb) number (GetData key.now.bytes.items) prior }
-    requires value { (value.old.bytes ≡ []) × (value.old.spare ≡ MAX_VALUE) }
+    requires value { (value.old.bytes ≡ []) × (value.old.spare ≡ max_value) }
     ensures ok { IfOk result (λ step. Moved config.now vb (event_of number (GetData key.now.bytes.items) now prior value.new.bytes step) world.old world.new) }
     ensures comes { IfOk result (Gets config.now.stripes (part_in world.old vb) (part_in world.new vb) prior key.now.bytes.items now) }
     ensures kept { KeptBut config.now (touches_call config.now (GetData key.now.bytes.items)) (part_in world.old vb) (part_in world.new vb) }
     ensures err { OnErr result (Rested config.now world.old world.new) }
     ensures sound { Sound part_stands world.new }
-    ensures value { value.new.spare + length value.new.bytes ≡ MAX_VALUE }
+    ensures value { value.new.spare + length value.new.bytes ≡ max_value }
 {
     if world.reserve(1, EVENT_BYTES).is_err() {
         return Err(NoMemory);
@@ -128,13 +129,13 @@ pub(crate) fn try_loaded(
     requires vb { loaded.now.vb < config.now.vbuckets }
     requires prior { PriorsStand (front_in world.old loaded.now.vb) number (owned_data loaded.now.call) prior }
     requires moment { now < 2 ^ 62 }
-    requires value { (value.old.bytes ≡ []) × (value.old.spare ≡ MAX_VALUE) }
+    requires value { (value.old.bytes ≡ []) × (value.old.spare ≡ max_value) }
     ensures ok { IfOk result (λ step. Moved config.now loaded.now.vb (event_of number (owned_data loaded.now.call) now prior value.new.bytes step) world.old world.new) }
     ensures comes { IfOk result (ComesTo config.now (part_in world.old loaded.now.vb) (part_in world.new loaded.now.vb) (owned_data loaded.now.call) now prior) }
     ensures kept { KeptBut config.now (touches_call config.now (owned_data loaded.now.call)) (part_in world.old loaded.now.vb) (part_in world.new loaded.now.vb) }
     ensures err { OnErr result (Rested config.now world.old world.new) }
     ensures sound { Sound part_stands world.new }
-    ensures value { value.new.spare + length value.new.bytes ≡ MAX_VALUE }
+    ensures value { value.new.spare + length value.new.bytes ≡ max_value }
 {
     let vb = loaded.vb;
     match &loaded.call {
@@ -144,11 +145,11 @@ pub(crate) fn try_loaded(
 }
 
 /// Tells a stripe what is stored.
-pub(crate) fn mark_at(
+pub(crate) fn mark_at<K: Keeper>(
     config: &Config,
     world: &mut World<Part>,
     vb: u16,
-    bench: &Bench,
+    bench: &Bench<K>,
     stripe: u16,
 ) -> Result<Answer, NoMemory>
     requires ready { Ready config.now world.old }

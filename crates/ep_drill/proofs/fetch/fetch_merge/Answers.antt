@@ -53,7 +53,7 @@ pub note-requires-clause-own : goal.note-requires-clause-own
 note-requires-clause-own g c =
     let t = c.take_stripe-part in
     let d = c.take_desk-desk in
-    fail_own (g.S.Stage.number d.new.stage) (g.S.Stage.is_desk d.new.stage) c.args.fetched.ticket c.in-Failed.fault (d.ensures.stays.3 ∙ t.ensures.stays.3 ∙ c.requires.is_desk)
+    fail_own (g.S.Stage.number d.new.stage) (g.S.Stage.is_desk d.new.stage) c.args.fetched.ticket c.in-Failed.fault (d.ensures.stays.desk ∙ t.ensures.stays.desk ∙ c.requires.is_desk)
 
 pub give-requires-in-Failed-clause-stands : goal.give-requires-in-Failed-clause-stands
 give-requires-in-Failed-clause-stands g c =
@@ -61,7 +61,7 @@ give-requires-in-Failed-clause-stands g c =
     let d = c.take_desk-desk in
     let a = c.args.fetched in
     fail_desk (g.S.Stage.front c.args.stage.now) (g.S.Stage.front t.new.stage) (g.S.Stage.front d.new.stage) a.ticket a.key.items (found_data a.found) c.in-Failed.fault t.ensures.front d.ensures.front c.requires.stands (ap found_data c.in-Failed.is)
-    (g.S.Stage.front c.note.new.self) d.result.persisted (c.note.ensures.alone (d.ensures.stays.4 ∙ t.ensures.stays.4 ∙ c.requires.telling)) d.ensures.stands
+    (g.S.Stage.front c.note.new.self) d.result.persisted (c.note.ensures.alone (d.ensures.stays.telling ∙ t.ensures.stays.telling ∙ c.requires.telling)) d.ensures.stands
 
 pub settle-requires-in-Failed-clause-stands : goal.settle-requires-in-Failed-clause-stands
 settle-requires-in-Failed-clause-stands g c =
@@ -69,7 +69,7 @@ settle-requires-in-Failed-clause-stands g c =
     let d = c.take_desk-desk in
     let a = c.args.fetched in
     fail_stripe (g.S.Stage.front c.args.stage.now) (g.S.Stage.front t.new.stage) (g.S.Stage.front d.new.stage) a.ticket a.key.items (found_data a.found) c.in-Failed.fault t.ensures.front d.ensures.front c.requires.stands (ap found_data c.in-Failed.is)
-    (g.S.Stage.front c.note.new.self) (g.S.Stage.front c.give-in-Failed.new.self) t.result (c.note.ensures.alone (d.ensures.stays.4 ∙ t.ensures.stays.4 ∙ c.requires.telling)) c.give-in-Failed.ensures.front t.ensures.stands
+    (g.S.Stage.front c.note.new.self) (g.S.Stage.front c.give-in-Failed.new.self) t.result (c.note.ensures.alone (d.ensures.stays.telling ∙ t.ensures.stays.telling ∙ c.requires.telling)) c.give-in-Failed.ensures.front t.ensures.stands
 
 pub settle-requires-in-NoMemory-clause-stands : goal.settle-requires-in-NoMemory-clause-stands
 settle-requires-in-NoMemory-clause-stands g c =
@@ -84,7 +84,7 @@ returns-then-put_back-clause-merged g c =
     let y = c.put_back.new.part in
     let row = c.in-Row.row in
     let has = has_place c.outcome.result c.is_none.result t.result.places a.ticket.number c.outcome.ensures c.is_none.ensures c.if-is_none.false in
-    let telling = t.ensures.stays.4 ∙ c.requires.telling in (
+    let telling = t.ensures.stays.telling ∙ c.requires.telling in (
       c.settle.ensures.front ∙ t.ensures.front,
       part_place (g.S.Stage.tells c.args.stage.now (Stripe a.ticket.stripe)) a.ticket t.result t.ensures.told has,
       back_outcome (g.S.Stage.front c.args.stage.now) (g.S.Stage.front t.new.stage) a.ticket (g.S.Stage.is_telling t.new.stage) (g.S.Stage.tells t.new.stage) (g.S.Stage.tells c.settle.new.stage) y outcomes.Merged
@@ -117,9 +117,9 @@ returns-in-Absent-clause-merged g c =
       part_place (g.S.Stage.tells c.args.stage.now (Stripe a.ticket.stripe)) a.ticket t.result t.ensures.told has,
       ap found_data c.in-Absent.is,
       part_outcome (g.S.Stage.front c.args.stage.now) (g.S.Stage.front t.new.stage) a.ticket (g.S.Stage.is_telling t.new.stage) (g.S.Stage.tells t.new.stage) (g.S.Stage.tells r.new.stage) t.result outcomes.Absent
-          (ap (λ (f : FrontData). f.config) t.ensures.front) c.requires.there (t.ensures.stays.4 ∙ c.requires.telling) r.ensures.tells has,
+          (ap (λ (f : FrontData). f.config) t.ensures.front) c.requires.there (t.ensures.stays.telling ∙ c.requires.telling) r.ensures.tells has,
       part_becomes (g.S.Stage.front c.args.stage.now) (g.S.Stage.front t.new.stage) a.ticket (g.S.Stage.is_telling t.new.stage) (g.S.Stage.tells t.new.stage) (g.S.Stage.tells r.new.stage) t.result outcomes.Absent
-          (ap (λ (f : FrontData). f.config) t.ensures.front) c.requires.there (t.ensures.stays.4 ∙ c.requires.telling) r.ensures.tells (g.S.Stage.tells c.args.stage.now (Stripe a.ticket.stripe)) t.ensures.told,
+          (ap (λ (f : FrontData). f.config) t.ensures.front) c.requires.there (t.ensures.stays.telling ∙ c.requires.telling) r.ensures.tells (g.S.Stage.tells c.args.stage.now (Stripe a.ticket.stripe)) t.ensures.told,
     )
 
 pub returns-in-Failed-clause-merged : goal.returns-in-Failed-clause-merged
@@ -131,16 +131,16 @@ returns-in-Failed-clause-merged g c =
     let a = c.args.fetched in
     let r = c.settle-in-Failed in
     let has = has_place c.outcome.result c.is_none.result t.result.places a.ticket.number c.outcome.ensures c.is_none.ensures c.if-is_none.false in
-    let held = d.ensures.stays.4 ∙ t.ensures.stays.4 ∙ c.requires.telling in
+    let held = d.ensures.stays.telling ∙ t.ensures.stays.telling ∙ c.requires.telling in
     let noted = n.ensures.alone held in (
       c.in-Failed.fault,
       ap found_data c.in-Failed.is,
       r.ensures.front ∙ v.ensures.front ∙ noted ∙ ap (λ (f : FrontData). with_event f (events.ReadFailed a.ticket c.in-Failed.fault)) (d.ensures.front ∙ t.ensures.front),
       part_place (g.S.Stage.tells c.args.stage.now (Stripe a.ticket.stripe)) a.ticket t.result t.ensures.told has,
       part_outcome (g.S.Stage.front c.args.stage.now) (g.S.Stage.front v.new.self) a.ticket (g.S.Stage.is_telling v.new.self) (g.S.Stage.tells v.new.self) (g.S.Stage.tells r.new.stage) t.result (outcomes.Failed c.in-Failed.fault)
-          (ap (λ (f : FrontData). f.config) (v.ensures.front ∙ noted) ∙ ap (λ (f : FrontData). f.config) (d.ensures.front ∙ t.ensures.front)) c.requires.there (v.ensures.stays.4 ∙ n.ensures.stays.4 ∙ held) r.ensures.tells has,
+          (ap (λ (f : FrontData). f.config) (v.ensures.front ∙ noted) ∙ ap (λ (f : FrontData). f.config) (d.ensures.front ∙ t.ensures.front)) c.requires.there (v.ensures.stays.telling ∙ n.ensures.stays.telling ∙ held) r.ensures.tells has,
       part_becomes (g.S.Stage.front c.args.stage.now) (g.S.Stage.front v.new.self) a.ticket (g.S.Stage.is_telling v.new.self) (g.S.Stage.tells v.new.self) (g.S.Stage.tells r.new.stage) t.result (outcomes.Failed c.in-Failed.fault)
-          (ap (λ (f : FrontData). f.config) (v.ensures.front ∙ noted) ∙ ap (λ (f : FrontData). f.config) (d.ensures.front ∙ t.ensures.front)) c.requires.there (v.ensures.stays.4 ∙ n.ensures.stays.4 ∙ held) r.ensures.tells (g.S.Stage.tells c.args.stage.now (Stripe a.ticket.stripe)) t.ensures.told,
+          (ap (λ (f : FrontData). f.config) (v.ensures.front ∙ noted) ∙ ap (λ (f : FrontData). f.config) (d.ensures.front ∙ t.ensures.front)) c.requires.there (v.ensures.stays.telling ∙ n.ensures.stays.telling ∙ held) r.ensures.tells (g.S.Stage.tells c.args.stage.now (Stripe a.ticket.stripe)) t.ensures.told,
     )
 
 pub returns-clause-merged : goal.returns-clause-merged
@@ -153,7 +153,7 @@ returns-clause-merged g c =
       ap found_data c.in-NoMemory.is,
       part_place (g.S.Stage.tells c.args.stage.now (Stripe a.ticket.stripe)) a.ticket t.result t.ensures.told has,
       part_outcome (g.S.Stage.front c.args.stage.now) (g.S.Stage.front t.new.stage) a.ticket (g.S.Stage.is_telling t.new.stage) (g.S.Stage.tells t.new.stage) (g.S.Stage.tells r.new.stage) t.result outcomes.NoMemory
-          (ap (λ (f : FrontData). f.config) t.ensures.front) c.requires.there (t.ensures.stays.4 ∙ c.requires.telling) r.ensures.tells has,
+          (ap (λ (f : FrontData). f.config) t.ensures.front) c.requires.there (t.ensures.stays.telling ∙ c.requires.telling) r.ensures.tells has,
       part_becomes (g.S.Stage.front c.args.stage.now) (g.S.Stage.front t.new.stage) a.ticket (g.S.Stage.is_telling t.new.stage) (g.S.Stage.tells t.new.stage) (g.S.Stage.tells r.new.stage) t.result outcomes.NoMemory
-          (ap (λ (f : FrontData). f.config) t.ensures.front) c.requires.there (t.ensures.stays.4 ∙ c.requires.telling) r.ensures.tells (g.S.Stage.tells c.args.stage.now (Stripe a.ticket.stripe)) t.ensures.told,
+          (ap (λ (f : FrontData). f.config) t.ensures.front) c.requires.there (t.ensures.stays.telling ∙ c.requires.telling) r.ensures.tells (g.S.Stage.tells c.args.stage.now (Stripe a.ticket.stripe)) t.ensures.told,
     )

@@ -10,12 +10,12 @@ pub returns-in-Ok-Some-clause-read : goal.returns-in-Ok-Some-clause-read
 returns-in-Ok-Some-clause-read g c =
     let t = c.take_stripe-part in
     let found = c.read_found-found in
-    let r = c.requires.1.1.1 in (
-      read_at (g.S.Stage.front c.args.stage.now) (g.S.Stage.front t.new.stage) c.args.stripe t.result c.in-Ok-Some.number c.in-Ok-Some.key g.content c.args.desk.now.stored c.args.desk.now.noted c.args.desk.now.read_faults
-          found.new.desk.read_faults (found_data found.result) t.ensures.front t.ensures.legal r.1.0 t.ensures.stands r.1.1.1.1.0
+    let r = c.requires in (
+      read_at (g.S.Stage.front c.args.stage.now) (g.S.Stage.front t.new.stage) c.args.stripe t.result c.in-Ok-Some.number c.in-Ok-Some.key c.args.desk.now found.new.desk
+          (found_data found.result) t.ensures.front t.ensures.legal r.eviction t.ensures.stands r.sure r.tells r.desk
           (subst (λ (o : Option (ℕ × Vec ℕ Global)). IsOldest (first_waiting t.result.places) o) c.in-Ok-Some.field-0-is c.in-Ok-Some.ensures.ok)
-          (subst (λ (l : List ℕ). IsFoundIn g.content l (found_data found.result)) c.deref.ensures.value (found.ensures.found g.content r.1.1.1.0))
-          found.ensures.counted,
+          (λ content told. subst (λ (l : List ℕ). IsFoundIn content l (found_data found.result)) c.deref.ensures.value (found.ensures.found content told))
+          found.ensures.reads,
       refl,
-      found.ensures.counted,
+      found.ensures.reads,
     )

@@ -27,5 +27,5 @@ returns-clause-ok c =
     let o = c.open_parts in
     let added = stage_added c.args.config.now c.args.world.now c.add.new.self c.reserve.new.self st.result.world.now c.in-Ok.parts.items c.reserve.new.self.event_room c.reserve.new.self.byte_room c.count-count.result st.result.vb
     c.count-count.ensures.sound c.requires.config c.in-Ok.ensures.count c.in-Ok-add.ensures.ok c.reserve.ensures.same st.ensures.world c.count-count.ensures.count st.ensures.vb
-    o.new.stage.world.now o.new.stage.vb o.ensures.stays.1 o.ensures.home o.ensures.front c.requires.home in
+    o.new.stage.world.now o.new.stage.vb o.ensures.stays.fixed o.ensures.home o.ensures.front c.requires.home in
     search rules

@@ -1,7 +1,7 @@
 use Rattle.std.proofs.Common.{◌∙◌, ap}
 use Rattle.kv_keeper.specs.declared.data.BatchData.{BatchData}
-use Rattle.flat_parts.specs.Nodes.{doc_of}
-use Rattle.ep_drill.proofs.StageLemmas.{laid_more, rows_more}
+use Rattle.ep_model.specs.World.{doc_from}
+use Rattle.ep_drill.proofs.StageLemmas.{laid_more}
 use Rattle.ep_drill.proofs.store.fill.Goals as goal
 
 pub loop-index-preserved : goal.loop-index-preserved
@@ -10,10 +10,9 @@ loop-index-preserved c =
     let meta = item.document.meta in
     let l = c.loop-index in
     record {
-      same_rows = rows_more c.args.batch.now.rows l.batch.rows c.add.new.self.rows c.args.queue.now.items l.index item.key.items c.deref.result.now (doc_of meta item.document.value.items) (doc_of meta c.deref-in-loop-index.result.now)
-          l.invariant.same_rows c.item-item.ensures.item c.deref.ensures.value (ap (λ v. doc_of meta v) c.deref-in-loop-index.ensures.value) (ap (λ (b : BatchData). b.rows) c.in_ok-add.ensures.ok);
-      same_laid = laid_more c.args.batch.now.rows l.batch.rows c.add.new.self.rows c.args.queue.now.items l.index item.key.items c.deref.result.now (doc_of meta item.document.value.items) (doc_of meta c.deref-in-loop-index.result.now)
-          l.invariant.same_laid c.item-item.ensures.item c.deref.ensures.value (ap (λ v. doc_of meta v) c.deref-in-loop-index.ensures.value) c.in_ok-add.ensures.laid;
+      distinct = c.add.ensures.distinct;
+      same_laid = laid_more c.args.batch.now.rows l.batch.rows c.add.new.self.rows c.args.queue.now.items l.index item.key.items c.deref.result.now (doc_from meta item.document.value.items) (doc_from meta c.deref-in-loop-index.result.now)
+          l.invariant.same_laid c.item-item.ensures.item c.deref.ensures.value (ap (λ v. doc_from meta v) c.deref-in-loop-index.ensures.value) c.in_ok-add.ensures.laid;
       same_to = ap (λ (b : BatchData). b.to) c.in_ok-add.ensures.ok ∙ l.invariant.same_to;
       same_maxcas = ap (λ (b : BatchData). b.maxcas) c.in_ok-add.ensures.ok ∙ l.invariant.same_maxcas;
     }

@@ -23,7 +23,7 @@ use Rattle.ep_drill.proofs.stored.merge_at.Goals as goal
 
 -- src/stored.rt
 pub fetch_merge-merging-requires-clause-there : goal.fetch_merge-merging-requires-clause-there
-fetch_merge-merging-requires-clause-there c =
+fetch_merge-merging-requires-clause-there g c =
     let was : c.index_mut.result.now ≡ Some c.in-Some.fetched = sym c.replace.ensures.value ∙ c.in-Some.is in
     let at : c.index_mut.result.now ≡ slice_index_or c.args.bench.now.reads.items c.args.stripe c.index_mut.result.now = search rules in
     let read = read_at_stripe (front_in c.args.world.now c.args.vb) (bench_data c.args.bench.now) c.args.bench.now.reads.items c.args.stripe c.index_mut.result.now c.in-Some.fetched c.requires.bench refl (subst (λ (k : Config). c.args.stripe < k.stripes) (sym c.requires.ready.layout) c.requires.stripe) at was in
@@ -32,7 +32,7 @@ fetch_merge-merging-requires-clause-there c =
 
 -- src/stored.rt
 pub fetch_merge-merging-requires-clause-stands : goal.fetch_merge-merging-requires-clause-stands
-fetch_merge-merging-requires-clause-stands c =
+fetch_merge-merging-requires-clause-stands g c =
     let was : c.index_mut.result.now ≡ Some c.in-Some.fetched = sym c.replace.ensures.value ∙ c.in-Some.is in
     let at : c.index_mut.result.now ≡ slice_index_or c.args.bench.now.reads.items c.args.stripe c.index_mut.result.now = search rules in
     let read = read_at_stripe (front_in c.args.world.now c.args.vb) (bench_data c.args.bench.now) c.args.bench.now.reads.items c.args.stripe c.index_mut.result.now c.in-Some.fetched c.requires.bench refl (subst (λ (k : Config). c.args.stripe < k.stripes) (sym c.requires.ready.layout) c.requires.stripe) at was in
@@ -41,16 +41,16 @@ fetch_merge-merging-requires-clause-stands c =
 
 -- src/stored.rt
 pub returns-clause-worked : goal.returns-clause-worked
-returns-clause-worked c =
+returns-clause-worked g c =
     let m : Worked c.args.config.now c.args.vb c.args.world.now c.fetch_merge-merging.new.stage.world.now =
     merged_at c.args.world.now c.reserve.new.self c.stage-stage.result.world.now c.fetch_merge-merging.new.stage.world.now c.args.vb c.stage-stage.result.vb c.fetch_merge-merging.new.stage.vb c.reserve.new.self.event_room c.reserve.new.self.byte_room c.args.config.now
     (part_in c.stage-stage.result.world.now c.stage-stage.result.vb (Stripe c.in-Some.fetched.ticket.stripe)) (part_in c.fetch_merge-merging.new.stage.world.now c.fetch_merge-merging.new.stage.vb (Stripe c.in-Some.fetched.ticket.stripe)) (fetched_data c.in-Some.fetched) c.fetch_merge-merging.result
-    c.requires.ready c.requires.vb c.reserve.ensures.same c.stage-stage.ensures.world c.stage-stage.ensures.vb c.fetch_merge-merging.ensures.stays.1 c.fetch_merge-merging.ensures.home c.fetch_merge-merging.ensures.merged in
+    c.requires.ready c.requires.vb c.reserve.ensures.same c.stage-stage.ensures.world c.stage-stage.ensures.vb c.fetch_merge-merging.ensures.stays.fixed c.fetch_merge-merging.ensures.home c.fetch_merge-merging.ensures.merged in
     search rules
 
 -- src/stored.rt
 pub returns-clause-bench : goal.returns-clause-bench
-returns-clause-bench c =
+returns-clause-bench g c =
     let was : c.index_mut.result.now ≡ Some c.in-Some.fetched = sym c.replace.ensures.value ∙ c.in-Some.is in
     let at : c.index_mut.result.now ≡ slice_index_or c.args.bench.now.reads.items c.args.stripe c.index_mut.result.now = search rules in
     let read = read_at_stripe (front_in c.args.world.now c.args.vb) (bench_data c.args.bench.now) c.args.bench.now.reads.items c.args.stripe c.index_mut.result.now c.in-Some.fetched c.requires.bench refl (subst (λ (k : Config). c.args.stripe < k.stripes) (sym c.requires.ready.layout) c.requires.stripe) at was in
@@ -62,12 +62,12 @@ returns-clause-bench c =
     merge_left c.args.world.now c.reserve.new.self c.stage-stage.result.world.now c.fetch_merge-merging.new.stage.world.now c.args.vb c.stage-stage.result.vb c.fetch_merge-merging.new.stage.vb c.reserve.new.self.event_room c.reserve.new.self.byte_room (bench_data c.args.bench.now) c.args.stripe (fetched_data c.in-Some.fetched)
     (part_in c.stage-stage.result.world.now c.stage-stage.result.vb (Stripe c.in-Some.fetched.ticket.stripe)) (part_in c.fetch_merge-merging.new.stage.world.now c.fetch_merge-merging.new.stage.vb (Stripe c.in-Some.fetched.ticket.stripe))
     (map (option_map fetched_data) (slice_set c.args.bench.now.reads.items c.from.result c.replace.new.dest)) c.fetch_merge-merging.result
-    c.reserve.ensures.same c.stage-stage.ensures.world c.stage-stage.ensures.vb c.fetch_merge-merging.ensures.stays.1 c.reserve.ensures.sound sound c.requires.bench read gone c.fetch_merge-merging.ensures.merged in
+    c.reserve.ensures.same c.stage-stage.ensures.world c.stage-stage.ensures.vb c.fetch_merge-merging.ensures.stays.fixed c.reserve.ensures.sound sound c.requires.bench read gone c.fetch_merge-merging.ensures.merged in
     search rules
 
 -- src/stored.rt
 pub returns-in_default-clause-ok : goal.returns-in_default-clause-ok
-returns-in_default-clause-ok c =
+returns-in_default-clause-ok g c =
     let was : c.index_mut.result.now ≡ None = search rules in
     let at : c.index_mut.result.now ≡ slice_index_or c.args.bench.now.reads.items c.args.stripe c.index_mut.result.now = search rules in
     let none = no_read_at_stripe (front_in c.args.world.now c.args.vb) (bench_data c.args.bench.now) c.args.bench.now.reads.items c.args.stripe c.index_mut.result.now c.requires.bench refl (subst (λ (k : Config). c.args.stripe < k.stripes) (sym c.requires.ready.layout) c.requires.stripe) at was in
@@ -78,7 +78,7 @@ returns-in_default-clause-ok c =
 
 -- src/stored.rt
 pub returns-then-is_err-clause-err : goal.returns-then-is_err-clause-err
-returns-then-is_err-clause-err c =
+returns-then-is_err-clause-err g c =
     let was : c.index_mut.result.now ≡ Some c.in-Some.fetched = sym c.replace.ensures.value ∙ c.in-Some.is in
     let at : c.index_mut.result.now ≡ slice_index_or c.args.bench.now.reads.items c.args.stripe c.index_mut.result.now = search rules in
     let read = read_at_stripe (front_in c.args.world.now c.args.vb) (bench_data c.args.bench.now) c.args.bench.now.reads.items c.args.stripe c.index_mut.result.now c.in-Some.fetched c.requires.bench refl (subst (λ (k : Config). c.args.stripe < k.stripes) (sym c.requires.ready.layout) c.requires.stripe) at was in
@@ -90,7 +90,7 @@ returns-then-is_err-clause-err c =
 
 -- src/stored.rt
 pub returns-then-is_err-clause-bench : goal.returns-then-is_err-clause-bench
-returns-then-is_err-clause-bench c =
+returns-then-is_err-clause-bench g c =
     let was : c.index_mut.result.now ≡ Some c.in-Some.fetched = sym c.replace.ensures.value ∙ c.in-Some.is in
     let at : c.index_mut.result.now ≡ slice_index_or c.args.bench.now.reads.items c.args.stripe c.index_mut.result.now = search rules in
     let read = read_at_stripe (front_in c.args.world.now c.args.vb) (bench_data c.args.bench.now) c.args.bench.now.reads.items c.args.stripe c.index_mut.result.now c.in-Some.fetched c.requires.bench refl (subst (λ (k : Config). c.args.stripe < k.stripes) (sym c.requires.ready.layout) c.requires.stripe) at was in
@@ -102,7 +102,7 @@ returns-then-is_err-clause-bench c =
 
 -- src/stored.rt
 pub returns-clause-ok : goal.returns-clause-ok
-returns-clause-ok c =
+returns-clause-ok g c =
     let was : c.index_mut.result.now ≡ Some c.in-Some.fetched = sym c.replace.ensures.value ∙ c.in-Some.is in
     let at : c.index_mut.result.now ≡ slice_index_or c.args.bench.now.reads.items c.args.stripe c.index_mut.result.now = search rules in
     let read = read_at_stripe (front_in c.args.world.now c.args.vb) (bench_data c.args.bench.now) c.args.bench.now.reads.items c.args.stripe c.index_mut.result.now c.in-Some.fetched c.requires.bench refl (subst (λ (k : Config). c.args.stripe < k.stripes) (sym c.requires.ready.layout) c.requires.stripe) at was in
@@ -111,7 +111,7 @@ returns-clause-ok c =
     ap (λ (l : List (Option Fetched)). map (option_map fetched_data) l) none ∙ map-set (option_map fetched_data) c.args.bench.now.reads.items c.args.stripe None in
     let f : WasMerged c.args.config.now c.args.vb c.args.stripe c.fetch_merge-merging.result c.args.world.now c.fetch_merge-merging.new.stage.world.now (bench_data c.args.bench.now) (bench_data (record c.args.bench.now { reads = with_item c.args.bench.now.reads c.from.result c.replace.new.dest })) =
     was_merged c.args.config.now c.args.world.now c.reserve.new.self c.stage-stage.result.world.now c.fetch_merge-merging.new.stage.world.now c.args.vb c.stage-stage.result.vb c.fetch_merge-merging.new.stage.vb c.reserve.new.self.event_room c.reserve.new.self.byte_room
-    c.requires.ready c.requires.vb c.reserve.ensures.same c.stage-stage.ensures.world c.stage-stage.ensures.vb c.fetch_merge-merging.ensures.stays.1 c.fetch_merge-merging.ensures.home
+    c.requires.ready c.requires.vb c.reserve.ensures.same c.stage-stage.ensures.world c.stage-stage.ensures.vb c.fetch_merge-merging.ensures.stays.fixed c.fetch_merge-merging.ensures.home
     (bench_data c.args.bench.now) (bench_data (record c.args.bench.now { reads = with_item c.args.bench.now.reads c.from.result c.replace.new.dest })) c.args.stripe (fetched_data c.in-Some.fetched) c.fetch_merge-merging.result c.requires.bench read
     (ap (λ (l : List (Option FetchedData)). record (bench_data c.args.bench.now) { reads = l }) gone) c.fetch_merge-merging.ensures.merged c.fetch_merge-merging.ensures.kept in
     search rules

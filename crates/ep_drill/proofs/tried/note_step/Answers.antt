@@ -1,4 +1,4 @@
-use Rattle.ep_drill.proofs.CallLemmas.{own_called, own_refused, own_asked}
+use Rattle.hold_stage.proofs.OwnLemmas.{own_called, own_refused, own_asked}
 use Rattle.ep_drill.proofs.tried.note_step.Goals as goal
 
 pub note-requires-clause-own : goal.note-requires-clause-own

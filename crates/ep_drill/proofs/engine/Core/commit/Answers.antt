@@ -6,13 +6,13 @@ use Rattle.ep_drill.specs.declared.data.CoreData.{CoreData}
 use Rattle.std.specs.Prelude.{IsSome}
 use Rattle.ep_drill.specs.Stepped.{IsNoBucket}
 use Rattle.ep_drill.specs.Works.{Commits}
-use Rattle.ep_drill.proofs.EngineLemmas.{lent_at, bench_of, benched_core}
+use Rattle.ep_drill.proofs.EngineLemmas.{lent_at, bench_of, benched_core, stays_on}
 use Rattle.ep_drill.proofs.SteppedLemmas.{benched_ok, benched_err}
 use Rattle.ep_drill.proofs.engine.Core.commit.Goals as goal
 
 -- src/engine.rt
 pub commit_at-requires-clause-bench : goal.commit_at-requires-clause-bench
-commit_at-requires-clause-bench c =
+commit_at-requires-clause-bench g c =
     let i : Interleaves (core_data c.self.inside.config c.self.inside.world c.self.inside.benches.items c.self.inside.callers.items) = c.self.invariant.0 in
     let at : slice_get c.self.inside.benches.items c.from.result ≡ Some c.in-Some.bench.now =
     lent_at c.self.inside.benches.items c.from.result c.in-Some.bench.now c.in-Some.ensures.item.3.0 c.in-Some.ensures.value in
@@ -22,7 +22,7 @@ commit_at-requires-clause-bench c =
 
 -- src/engine.rt
 pub invariant_of-self-2 : goal.invariant_of-self-2
-invariant_of-self-2 c =
+invariant_of-self-2 g c =
     let i : Interleaves (core_data c.self.inside.config c.self.inside.world c.self.inside.benches.items c.self.inside.callers.items) = c.self.invariant.0 in
     let at : slice_get c.self.inside.benches.items c.from.result ≡ Some c.in-Some.bench.now =
     lent_at c.self.inside.benches.items c.from.result c.in-Some.bench.now c.in-Some.ensures.item.3.0 c.in-Some.ensures.value in
@@ -33,7 +33,7 @@ invariant_of-self-2 c =
 
 -- src/engine.rt
 pub returns-clause-interleaves : goal.returns-clause-interleaves
-returns-clause-interleaves c =
+returns-clause-interleaves g c =
     let i : Interleaves (core_data c.self.inside.config c.self.inside.world c.self.inside.benches.items c.self.inside.callers.items) = c.self.invariant.0 in
     let at : slice_get c.self.inside.benches.items c.from.result ≡ Some c.in-Some.bench.now =
     lent_at c.self.inside.benches.items c.from.result c.in-Some.bench.now c.in-Some.ensures.item.3.0 c.in-Some.ensures.value in
@@ -44,7 +44,7 @@ returns-clause-interleaves c =
 
 -- src/engine.rt
 pub returns-clause-goes_on : goal.returns-clause-goes_on
-returns-clause-goes_on c =
+returns-clause-goes_on g c =
     let i : Interleaves (core_data c.self.inside.config c.self.inside.world c.self.inside.benches.items c.self.inside.callers.items) = c.self.invariant.0 in
     let at : slice_get c.self.inside.benches.items c.from.result ≡ Some c.in-Some.bench.now =
     lent_at c.self.inside.benches.items c.from.result c.in-Some.bench.now c.in-Some.ensures.item.3.0 c.in-Some.ensures.value in
@@ -54,15 +54,18 @@ returns-clause-goes_on c =
     subst (λ (s : CoreData). GoesOn s (core_data c.self.inside.config c.commit_at.new.world (slice_set c.self.inside.benches.items c.from.result c.commit_at.new.bench) c.self.inside.callers.items)) c.self.view_is m.1
 
 pub returns-clause-committed : goal.returns-clause-committed
-returns-clause-committed c =
+returns-clause-committed g c =
     let at : slice_get c.self.inside.benches.items c.from.result ≡ Some c.in-Some.bench.now =
     lent_at c.self.inside.benches.items c.from.result c.in-Some.bench.now c.in-Some.ensures.item.3.0 c.in-Some.ensures.value in
     benched_ok c.args.self.now c.self.inside.config c.self.inside.world c.commit_at.new.world c.self.inside.benches.items c.self.inside.callers.items c.from.result c.args.vb c.in-Some.bench.now c.self.view_is (search rules) at
     c.commit_at.new.bench (λ o. IsNoBucket o c.args.vb) (λ k. Commits k c.args.vb) c.commit_at.result c.commit_at.ensures.ok
 
 pub returns-clause-err : goal.returns-clause-err
-returns-clause-err c =
+returns-clause-err g c =
     let at : slice_get c.self.inside.benches.items c.from.result ≡ Some c.in-Some.bench.now =
     lent_at c.self.inside.benches.items c.from.result c.in-Some.bench.now c.in-Some.ensures.item.3.0 c.in-Some.ensures.value in
     benched_err c.args.self.now c.self.inside.config c.self.inside.world c.commit_at.new.world c.self.inside.benches.items c.self.inside.callers.items c.from.result c.args.vb c.in-Some.bench.now c.self.view_is (search rules) at
     c.commit_at.new.bench (λ (b : BenchData). IsSome b.batch) c.commit_at.result c.commit_at.ensures.err
+
+pub returns-in_default-clause-goes_on : goal.returns-in_default-clause-goes_on
+returns-in_default-clause-goes_on g c = stays_on _ _ (search rules)

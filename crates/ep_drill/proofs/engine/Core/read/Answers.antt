@@ -2,7 +2,7 @@ use Rattle.std.proofs.Common.{rules, ◌≡◌, Some, None, ℕ, slice_set, slic
 use Rattle.ep_drill.specs.Core.{bench_data, core_data, Interleaves, GoesOn, BenchStands, Moved}
 use Rattle.vb_world.specs.World.{front_in}
 use Rattle.ep_drill.specs.declared.data.CoreData.{CoreData}
-use Rattle.ep_drill.proofs.EngineLemmas.{lent_at, bench_of, benched_still}
+use Rattle.ep_drill.proofs.EngineLemmas.{lent_at, bench_of, benched_still, bench_back, stays_on}
 use Rattle.ep_drill.specs.Stepped.{IsNowhere}
 use Rattle.ep_drill.specs.Works.{Fetches}
 use Rattle.ep_drill.proofs.SteppedLemmas.{benched_ok, read_err}
@@ -10,7 +10,7 @@ use Rattle.ep_drill.proofs.engine.Core.read.Goals as goal
 
 -- src/engine.rt
 pub read_at-requires-clause-bench : goal.read_at-requires-clause-bench
-read_at-requires-clause-bench c =
+read_at-requires-clause-bench g c =
     let i : Interleaves (core_data c.self.inside.config c.self.inside.world c.self.inside.benches.items c.self.inside.callers.items) = c.self.invariant.0 in
     let at : slice_get c.self.inside.benches.items c.from.result ≡ Some c.in-Some.bench.now =
     lent_at c.self.inside.benches.items c.from.result c.in-Some.bench.now c.in-Some.ensures.item.3.0 c.in-Some.ensures.value in
@@ -20,7 +20,7 @@ read_at-requires-clause-bench c =
 
 -- src/engine.rt
 pub invariant_of-self-2 : goal.invariant_of-self-2
-invariant_of-self-2 c =
+invariant_of-self-2 g c =
     let i : Interleaves (core_data c.self.inside.config c.self.inside.world c.self.inside.benches.items c.self.inside.callers.items) = c.self.invariant.0 in
     let at : slice_get c.self.inside.benches.items c.from.result ≡ Some c.in-Some.bench.now =
     lent_at c.self.inside.benches.items c.from.result c.in-Some.bench.now c.in-Some.ensures.item.3.0 c.in-Some.ensures.value in
@@ -31,7 +31,7 @@ invariant_of-self-2 c =
 
 -- src/engine.rt
 pub returns-clause-interleaves : goal.returns-clause-interleaves
-returns-clause-interleaves c =
+returns-clause-interleaves g c =
     let i : Interleaves (core_data c.self.inside.config c.self.inside.world c.self.inside.benches.items c.self.inside.callers.items) = c.self.invariant.0 in
     let at : slice_get c.self.inside.benches.items c.from.result ≡ Some c.in-Some.bench.now =
     lent_at c.self.inside.benches.items c.from.result c.in-Some.bench.now c.in-Some.ensures.item.3.0 c.in-Some.ensures.value in
@@ -42,7 +42,7 @@ returns-clause-interleaves c =
 
 -- src/engine.rt
 pub returns-clause-goes_on : goal.returns-clause-goes_on
-returns-clause-goes_on c =
+returns-clause-goes_on g c =
     let i : Interleaves (core_data c.self.inside.config c.self.inside.world c.self.inside.benches.items c.self.inside.callers.items) = c.self.invariant.0 in
     let at : slice_get c.self.inside.benches.items c.from.result ≡ Some c.in-Some.bench.now =
     lent_at c.self.inside.benches.items c.from.result c.in-Some.bench.now c.in-Some.ensures.item.3.0 c.in-Some.ensures.value in
@@ -52,15 +52,23 @@ returns-clause-goes_on c =
     subst (λ (s : CoreData). GoesOn s (core_data c.self.inside.config c.read_at.new.world (slice_set c.self.inside.benches.items c.from.result c.read_at.new.bench) c.self.inside.callers.items)) c.self.view_is m.1
 
 pub returns-clause-read : goal.returns-clause-read
-returns-clause-read c =
+returns-clause-read g c =
     let at : slice_get c.self.inside.benches.items c.from.result ≡ Some c.in-Some.bench.now =
     lent_at c.self.inside.benches.items c.from.result c.in-Some.bench.now c.in-Some.ensures.item.3.0 c.in-Some.ensures.value in
     benched_ok c.args.self.now c.self.inside.config c.self.inside.world c.read_at.new.world c.self.inside.benches.items c.self.inside.callers.items c.from.result c.args.vb c.in-Some.bench.now c.self.view_is (search rules) at
     c.read_at.new.bench (λ o. IsNowhere o c.args.vb c.args.stripe) (λ k. Fetches k c.args.vb c.args.stripe) c.read_at.result c.read_at.ensures.ok
 
 pub returns-clause-err : goal.returns-clause-err
-returns-clause-err c =
+returns-clause-err g c =
     let at : slice_get c.self.inside.benches.items c.from.result ≡ Some c.in-Some.bench.now =
     lent_at c.self.inside.benches.items c.from.result c.in-Some.bench.now c.in-Some.ensures.item.3.0 c.in-Some.ensures.value in
     read_err c.args.self.now c.self.inside.config c.self.inside.world c.read_at.new.world c.self.inside.benches.items c.self.inside.callers.items c.from.result c.args.vb c.in-Some.bench.now c.self.view_is (search rules) at
     c.read_at.new.bench c.args.stripe c.read_at.result c.read_at.ensures.err
+
+pub returns-in_default-clause-goes_on : goal.returns-in_default-clause-goes_on
+returns-in_default-clause-goes_on g c = stays_on _ _ (search rules)
+
+pub returns-then-stripe-self-clause-goes_on : goal.returns-then-stripe-self-clause-goes_on
+returns-then-stripe-self-clause-goes_on g c =
+    let o = c.self.inside in
+    bench_back c.args.self.now o.config o.world o.benches.items o.callers.items c.from.result c.in-Some.bench.now c.self.view_is c.in-Some.ensures.item.3.0 c.in-Some.ensures.value

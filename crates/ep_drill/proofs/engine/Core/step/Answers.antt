@@ -5,5 +5,5 @@ use Rattle.ep_drill.specs.Stepped.{Spares, TakesMemory}
 use Rattle.ep_drill.proofs.engine.Core.step.Goals as goal
 
 pub returns-in-Front-clause-err : goal.returns-in-Front-clause-err
-returns-in-Front-clause-err c =
+returns-in-Front-clause-err g c =
     subst (λ (k : StepChoice). OnErr c.front.result (Spares c.args.self.now c.front.new.self × TakesMemory c.args.self.now k)) (sym c.in-Front.is) c.front.ensures.err

@@ -2,7 +2,7 @@ use Rattle.std.proofs.Common.{rules, ◌≡◌, Some, None, ℕ, slice_set, slic
 use Rattle.ep_drill.specs.Core.{bench_data, core_data, Interleaves, GoesOn, BenchStands, Moved}
 use Rattle.vb_world.specs.World.{front_in}
 use Rattle.ep_drill.specs.declared.data.CoreData.{CoreData}
-use Rattle.ep_drill.proofs.EngineLemmas.{lent_at, bench_of, benched_still}
+use Rattle.ep_drill.proofs.EngineLemmas.{lent_at, bench_of, benched_still, stays_on}
 use Rattle.ep_drill.specs.Stepped.{IsNoBucket}
 use Rattle.ep_drill.specs.Works.{Takes}
 use Rattle.ep_drill.proofs.SteppedLemmas.{benched_at}
@@ -10,7 +10,7 @@ use Rattle.ep_drill.proofs.engine.Core.take_batch.Goals as goal
 
 -- src/engine.rt
 pub take_at-requires-clause-bench : goal.take_at-requires-clause-bench
-take_at-requires-clause-bench c =
+take_at-requires-clause-bench g c =
     let i : Interleaves (core_data c.self.inside.config c.self.inside.world c.self.inside.benches.items c.self.inside.callers.items) = c.self.invariant.0 in
     let at : slice_get c.self.inside.benches.items c.from.result ≡ Some c.in-Some.bench.now =
     lent_at c.self.inside.benches.items c.from.result c.in-Some.bench.now c.in-Some.ensures.item.3.0 c.in-Some.ensures.value in
@@ -20,7 +20,7 @@ take_at-requires-clause-bench c =
 
 -- src/engine.rt
 pub invariant_of-self-2 : goal.invariant_of-self-2
-invariant_of-self-2 c =
+invariant_of-self-2 g c =
     let i : Interleaves (core_data c.self.inside.config c.self.inside.world c.self.inside.benches.items c.self.inside.callers.items) = c.self.invariant.0 in
     let at : slice_get c.self.inside.benches.items c.from.result ≡ Some c.in-Some.bench.now =
     lent_at c.self.inside.benches.items c.from.result c.in-Some.bench.now c.in-Some.ensures.item.3.0 c.in-Some.ensures.value in
@@ -31,7 +31,7 @@ invariant_of-self-2 c =
 
 -- src/engine.rt
 pub returns-clause-interleaves : goal.returns-clause-interleaves
-returns-clause-interleaves c =
+returns-clause-interleaves g c =
     let i : Interleaves (core_data c.self.inside.config c.self.inside.world c.self.inside.benches.items c.self.inside.callers.items) = c.self.invariant.0 in
     let at : slice_get c.self.inside.benches.items c.from.result ≡ Some c.in-Some.bench.now =
     lent_at c.self.inside.benches.items c.from.result c.in-Some.bench.now c.in-Some.ensures.item.3.0 c.in-Some.ensures.value in
@@ -42,7 +42,7 @@ returns-clause-interleaves c =
 
 -- src/engine.rt
 pub returns-clause-goes_on : goal.returns-clause-goes_on
-returns-clause-goes_on c =
+returns-clause-goes_on g c =
     let i : Interleaves (core_data c.self.inside.config c.self.inside.world c.self.inside.benches.items c.self.inside.callers.items) = c.self.invariant.0 in
     let at : slice_get c.self.inside.benches.items c.from.result ≡ Some c.in-Some.bench.now =
     lent_at c.self.inside.benches.items c.from.result c.in-Some.bench.now c.in-Some.ensures.item.3.0 c.in-Some.ensures.value in
@@ -52,8 +52,11 @@ returns-clause-goes_on c =
     subst (λ (s : CoreData). GoesOn s (core_data c.self.inside.config c.take_at.new.world (slice_set c.self.inside.benches.items c.from.result c.take_at.new.bench) c.self.inside.callers.items)) c.self.view_is m.1
 
 pub returns-clause-taken : goal.returns-clause-taken
-returns-clause-taken c =
+returns-clause-taken g c =
     let at : slice_get c.self.inside.benches.items c.from.result ≡ Some c.in-Some.bench.now =
     lent_at c.self.inside.benches.items c.from.result c.in-Some.bench.now c.in-Some.ensures.item.3.0 c.in-Some.ensures.value in
     benched_at c.args.self.now c.self.inside.config c.self.inside.world c.take_at.new.world c.self.inside.benches.items c.self.inside.callers.items c.from.result c.args.vb c.in-Some.bench.now c.self.view_is (search rules) at
     c.take_at.new.bench (λ o. IsNoBucket o c.args.vb) (λ k. Takes k c.args.vb) c.take_at.result c.take_at.ensures.taken
+
+pub returns-in_default-clause-goes_on : goal.returns-in_default-clause-goes_on
+returns-in_default-clause-goes_on g c = stays_on _ _ (search rules)
