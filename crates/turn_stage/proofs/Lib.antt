@@ -1,0 +1,13 @@
+pub mod Parts
+pub mod Fronts
+pub mod Seats
+pub mod Moves
+pub mod Steps
+pub mod Events
+pub mod Longer
+pub mod Splits
+pub mod Opens
+pub mod Calls
+pub mod Rests
+pub mod Slotted
+pub mod ClosedLemmas

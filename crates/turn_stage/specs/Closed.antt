@@ -1,0 +1,36 @@
+-- What the stripes of a vBucket stand for that never opens, so that every call is refused there. The tests' parts are such.
+use Rattle.std.specs.Prelude.{◌≡◌, true, false, nat_lt}
+use Rattle.std.proofs.Common.{ap, ◌∙◌}
+use Rattle.ep_model.specs.declared.event.PartName.{PartName}
+use Rattle.ep_model.specs.declared.event.PartName.TheVariants.{Stripe, Queue, Desk}
+use Rattle.ep_model.specs.declared.data.EventData.{EventData}
+use Rattle.ep_model.specs.declared.data.FrontData.{FrontData}
+use Rattle.ep_model.specs.World.{World}
+use Rattle.ep_model.specs.Front.{world_of, with_event}
+use Rattle.hold_stage.specs.Touches.{touches}
+use Rattle.hold_stage.specs.Grows.{IsNone}
+use Rattle.turn_stage.specs.declared.pass.TurnPass.{TurnPass}
+use Rattle.turn_stage.specs.declared.table.Turns.{Turns}
+use Rattle.turn_stage.specs.Slots.{has}
+use Rattle.turn_stage.specs.Passes.{view_of, pass_data, IsPassOf}
+use Rattle.hold_stage.proofs.Later.{world_step}
+use Rattle.hold_stage.proofs.Views.{step_stripe}
+
+-- the vBucket hasn't opened, as far as its stripes know
+abbrev pub IsClosed : PartName → FrontData → Type 0
+IsClosed (Stripe stripe) f = nat_lt stripe f.config.stripes ≡ true → (world_of f).opened ≡ false
+IsClosed Queue f = Unit {0}
+IsClosed Desk f = Unit {0}
+
+-- an event that doesn't touch a part leaves this
+pub closed_keeps : (p : PartName) (f : FrontData) (event : EventData) → touches f event p ≡ false → IsClosed p f → IsClosed p (with_event f event)
+closed_keeps (Stripe stripe) f event apart closed = λ there.
+    ap (λ (w : World). w.opened) (world_step f event) ∙ (step_stripe f stripe (world_of f) event there apart).opened ∙ closed there
+closed_keeps Queue f event apart closed = tt
+closed_keeps Desk f event apart closed = tt
+
+-- A pass made calls: it is of the same turns, holds no part, and has the caller numbers and the share that it had.
+pub record Ran {P : Type 0} (turns : Turns P) (before after : TurnPass P) : Type 0 where
+  pub of : IsPassOf turns after
+  pub none : IsNone (has (view_of after).held)
+  pub numbers : pass_data (view_of after) ≡ pass_data (view_of before)

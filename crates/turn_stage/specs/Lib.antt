@@ -1,0 +1,9 @@
+pub mod Slots
+pub mod Rule
+pub mod Plays
+pub mod Parts
+pub mod Events
+pub mod Seats
+pub mod Passes
+pub mod Filled
+pub mod Closed
