@@ -1,0 +1,9 @@
+//! A vBucket's failover table.
+#![tactic(auto)]
+
+mod table;
+
+pub use table::{Failovers, MAX_ENTRIES};
+
+#[cfg(test)]
+mod tests;
