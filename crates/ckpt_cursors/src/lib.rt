@@ -1,0 +1,9 @@
+//! Named positions in a vBucket's checkpoints.
+#![tactic(auto)]
+
+mod cursors;
+
+pub use cursors::{CursorFault, Cursors, MAX_CURSORS};
+
+#[cfg(test)]
+mod tests;
