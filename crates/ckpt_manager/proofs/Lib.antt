@@ -1,0 +1,5 @@
+pub mod ItemLemmas
+pub mod QueueLemmas
+pub mod LastLemmas
+pub mod RoomLemmas
+pub mod CallLemmas

@@ -1,0 +1,11 @@
+//! A vBucket's checkpoints: the mutations on their way to the store, and who reads how far.
+#![tactic(auto)]
+
+mod data;
+mod queue;
+
+pub use data::QueueData;
+pub use queue::Queue;
+
+#[cfg(test)]
+mod tests;
