@@ -1,0 +1,5 @@
+pub mod Nodes
+pub mod Chains
+pub mod Stripes
+pub mod Looks
+pub mod Laws
