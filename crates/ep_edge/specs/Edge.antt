@@ -1,11 +1,21 @@
 -- What a call on the outside does to what the object tells.
 use Rattle.std.specs.Prelude.{◌≡◌, ℕ, ◌+◌, ◌-◌, ◌^◌, ◌≤◌, Bool, true, false, min, List, [], ◌++◌, take, Option, Some, None, IfSome}
+use Rattle.ep_model.specs.Counts.{raised}
 use Rattle.ep_edge.specs.declared.source.Got.{Got}
 use Rattle.ep_edge.specs.declared.source.Got.TheVariants.{Bytes, End, Failed}
+use Rattle.ep_edge.specs.declared.sink.Put.{Put}
+use Rattle.ep_edge.specs.declared.sink.Put.TheVariants as put
 
--- a count of faults rose, or stands where it can't rise any more
-abbrev pub Rose : ℕ → ℕ → Type 0
-Rose old new = min (old + 1) (2 ^ 64 - 1) ≤ new
+-- only a failed read is a fault
+abbrev pub read_faults : Got → ℕ → ℕ
+read_faults (Bytes n) faults = faults
+read_faults End faults = faults
+read_faults Failed faults = raised faults
+
+-- only a failed write is a fault
+abbrev pub write_faults : Put → ℕ → ℕ
+write_faults put.Done faults = faults
+write_faults put.Failed faults = raised faults
 
 -- the bytes that a read gave, out of its buffer
 abbrev pub bytes_read : Got → List ℕ → List ℕ

@@ -6,12 +6,9 @@ use Rattle.ep_edge.specs.declared.data.SourceData.{SourceData}
 use Rattle.ep_edge.specs.declared.data.SinkData.{SinkData}
 use Rattle.ep_edge.specs.declared.source.Got.{Got}
 use Rattle.ep_edge.specs.declared.source.Got.TheVariants.{Bytes, End, Failed}
+use Rattle.ep_model.specs.Counts.{raised}
 use Rattle.ep_edge.specs.declared.sink.Put.{Put}
 use Rattle.ep_edge.specs.declared.sink.Put.TheVariants as put
-
--- a count of faults after one more
-abbrev pub raised : ℕ → ℕ
-raised faults = min (faults + 1) (2 ^ 64 - 1)
 
 -- these calls fail, and none was made yet
 abbrev pub none_made : List ℕ → FailuresData
@@ -55,12 +52,13 @@ read_buffer source into =
 
 -- a source after a read that failed
 abbrev pub after_failed_read : SourceData → SourceData
-after_failed_read source = record source { failures = after_call source.failures; faults = raised source.faults }
+after_failed_read source = record source { left_before = source.left; failures = after_call source.failures; faults = raised source.faults }
 
 -- a source after a read that didn't fail
 abbrev pub after_good_read : SourceData → ℕ → SourceData
 after_good_read source room = record source {
   left = drop (read_limit source.pieces room) source.left;
+  left_before = source.left;
   pieces = drop 1 source.pieces;
   failures = after_call source.failures;
   ended = source.ended || is_nil (next_piece source room);

@@ -7,7 +7,7 @@ use Rattle.ep_edge.specs.declared.source.Got.{Got}
 use Rattle.ep_edge.specs.declared.source.Got.TheVariants.{Bytes, End, Failed}
 use Rattle.ep_edge.specs.declared.sink.Put.{Put}
 use Rattle.ep_edge.specs.declared.sink.Put.TheVariants as put
-use Rattle.ep_edge.specs.Memory.{raised}
+use Rattle.ep_model.specs.Counts.{raised}
 
 -- known bytes grew by the first of these
 abbrev pub AppendsSome : Option (List ℕ) → Option (List ℕ) → List ℕ → Type 0

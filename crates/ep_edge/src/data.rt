@@ -8,9 +8,11 @@ pub struct FailuresData {
     pub next: u128,
 }
 
-/// A `MemorySource` as clauses see it: the bytes that are left, and the bounds of the next reads.
+/// A `MemorySource` as clauses see it: the bytes that are left, those that were left as the last read began, and
+/// the bounds of the next reads.
 pub struct SourceData {
     pub left: LinkedList<u8>,
+    pub left_before: LinkedList<u8>,
     pub pieces: LinkedList<u32>,
     pub failures: FailuresData,
     pub ended: bool,

@@ -1,6 +1,6 @@
 // A sink in memory, of fixed room.
 ghost use Rattle.std.specs.Prelude.{◌≡◌, ◌<◌, ◌≤◌, [], length, IfOk};
-ghost use Rattle.ep_edge.specs.Edge.{Appends, AppendsFront, Rose};
+ghost use Rattle.ep_edge.specs.Edge.{Appends, AppendsFront, write_faults};
 ghost use Rattle.ep_edge.specs.Memory.{none_made, write_answer, after_write};
 
 use crate::failures::Failures;
@@ -67,9 +67,8 @@ impl Sink for MemorySink {
     fn write(&mut self, bytes: &[u8]) -> Put
         requires { 0 < length bytes.now }
         ensures done { result ≡ Put.Done → Appends (Some self.old.held) (Some self.new.held) bytes.now }
-        ensures failed { result ≡ Put.Failed → AppendsFront (Some self.old.held) (Some self.new.held) bytes.now
-            × Rose self.old.faults self.new.faults }
-        ensures faults { self.old.faults ≤ self.new.faults }
+        ensures failed { result ≡ Put.Failed → AppendsFront (Some self.old.held) (Some self.new.held) bytes.now }
+        ensures faults { self.new.faults ≡ write_faults result self.old.faults }
         ensures answer { result ≡ write_answer self.old bytes.now }
         ensures after { self.new ≡ after_write self.old bytes.now }
     {

@@ -1,6 +1,6 @@
 // A source in memory, which tests cut and break as they like.
 ghost use Rattle.std.specs.Prelude.{◌≡◌, ◌<◌, ◌≤◌, ◌||◌, ◌+◌, ◌++◌, ℕ, true, false, length, take, drop};
-ghost use Rattle.ep_edge.specs.Edge.{Takes, Rose, IsEmptied, bytes_read, is_end};
+ghost use Rattle.ep_edge.specs.Edge.{Takes, IsEmptied, bytes_read, is_end, read_faults};
 ghost use Rattle.ep_edge.specs.Memory.{none_made, read_limit, read_answer, read_buffer, after_read};
 
 use crate::failures::Failures;
@@ -13,6 +13,8 @@ pub struct MemorySource {
     bytes: Vec<u8>,
     /// How many of the bytes were given.
     given: usize,
+    /// How many were given as the last read began.
+    given_before: usize,
     pieces: Vec<u32>,
     /// How many of the pieces were used.
     used: usize,
@@ -29,6 +31,7 @@ impl Model for MemorySource {
 
     ghost view = { λ s. record {
       left = drop s.given s.bytes.items;
+      left_before = drop s.given_before s.bytes.items;
       pieces = drop s.used s.pieces.items;
       failures = s.failures;
       ended = s.ended;
@@ -46,6 +49,7 @@ impl MemorySource {
     pub fn new(bytes: Vec<u8>, pieces: Vec<u32>, fails: Vec<u64>) -> MemorySource
         ensures { result ≡ record {
           left = bytes.items;
+          left_before = bytes.items;
           pieces = pieces.items;
           failures = none_made fails.items;
           ended = false;
@@ -55,6 +59,7 @@ impl MemorySource {
         MemorySource {
             bytes,
             given: 0,
+            given_before: 0,
             pieces,
             used: 0,
             failures: Failures::new(fails),
@@ -73,6 +78,8 @@ impl Source for MemorySource {
 
     ghost faults = { λ s. s.faults };
 
+    ghost left_before = { λ s. Some s.left_before };
+
     /// Its cost is linear in the number of bytes given and in that of the reads that fail.
     fn read(&mut self, into: &mut [u8]) -> Got
         requires { 0 < length into.old }
@@ -81,12 +88,13 @@ impl Source for MemorySource {
         ensures ended { self.new.ended ≡ (self.old.ended || is_end result) }
         ensures end { result ≡ Got.End → IsEmptied (Some self.new.left) }
         ensures after_end { (n : ℕ) → self.old.ended ≡ true → result ≡ Got.Bytes n → ⊥ }
-        ensures failed { result ≡ Got.Failed → Rose self.old.faults self.new.faults }
-        ensures faults { self.old.faults ≤ self.new.faults }
+        ensures faults { self.new.faults ≡ read_faults result self.old.faults }
+        ensures before { Some self.new.left_before ≡ Some self.old.left }
         ensures answer { result ≡ read_answer self.old (length into.old) }
         ensures buffer { into.new ≡ read_buffer self.old into.old }
         ensures after { self.new ≡ after_read self.old (length into.old) }
     {
+        self.given_before = self.given;
         if self.failures.next_fails() {
             self.faults = self.faults.saturating_add(1);
             return Got::Failed;

@@ -1,6 +1,6 @@
 // Where bytes go.
 ghost use Rattle.std.specs.Prelude.{◌≡◌, ◌<◌, ◌≤◌, ℕ, List, Option, length};
-ghost use Rattle.ep_edge.specs.Edge.{Appends, AppendsFront, Rose};
+ghost use Rattle.ep_edge.specs.Edge.{Appends, AppendsFront, write_faults};
 
 /// How a write went.
 #[derive(Clone, Copy, Debug, PartialEq, Eq)]
@@ -21,6 +21,6 @@ pub trait Sink: Drop {
     fn write(&mut self, bytes: &[u8]) -> Put
         requires { 0 < length bytes.now }
         ensures done { result ≡ Put.Done → Appends (held self.old) (held self.new) bytes.now }
-        ensures failed { result ≡ Put.Failed → AppendsFront (held self.old) (held self.new) bytes.now × Rose (faults self.old) (faults self.new) }
-        ensures faults { faults self.old ≤ faults self.new };
+        ensures failed { result ≡ Put.Failed → AppendsFront (held self.old) (held self.new) bytes.now }
+        ensures faults { faults self.new ≡ write_faults result (faults self.old) };
 }

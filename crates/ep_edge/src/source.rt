@@ -1,6 +1,6 @@
 // Where bytes come from.
 ghost use Rattle.std.specs.Prelude.{◌≡◌, ◌<◌, ◌≤◌, ◌||◌, ℕ, List, Bool, Option, true, length};
-ghost use Rattle.ep_edge.specs.Edge.{Takes, Rose, IsEmptied, bytes_read, is_end};
+ghost use Rattle.ep_edge.specs.Edge.{Takes, IsEmptied, bytes_read, is_end, read_faults};
 
 /// What a read gave.
 #[derive(Clone, Copy, Debug, PartialEq, Eq)]
@@ -22,6 +22,9 @@ pub trait Source: Drop {
     /// How often it has failed. A count that stands at 2^64 - 1 stays there.
     ghost faults: { Self → ℕ };
 
+    /// The bytes that were still to come as its last read began, where the source tells them.
+    ghost left_before: { Self → Option (List ℕ) };
+
     /// Reads at least one byte and at most as many as the buffer holds. After `End` it gives no byte any more,
     /// and a failed read takes none.
     fn read(&mut self, into: &mut [u8]) -> Got
@@ -31,6 +34,6 @@ pub trait Source: Drop {
         ensures ended { has_ended self.new ≡ (has_ended self.old || is_end result) }
         ensures end { result ≡ Got.End → IsEmptied (left self.new) }
         ensures after_end { (n : ℕ) → has_ended self.old ≡ true → result ≡ Got.Bytes n → ⊥ }
-        ensures failed { result ≡ Got.Failed → Rose (faults self.old) (faults self.new) }
-        ensures faults { faults self.old ≤ faults self.new };
+        ensures faults { faults self.new ≡ read_faults result (faults self.old) }
+        ensures before { left_before self.new ≡ left self.old };
 }

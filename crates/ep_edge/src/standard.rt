@@ -3,7 +3,7 @@
 ghost use Rattle.std.specs.Prelude.{◌≡◌, ◌<◌, ◌≤◌, ◌^◌, ◌||◌, ℕ, true, false, length, take, IfSome, OnOk, OnErr};
 ghost use Rattle.std.specs.Io.{ReadsAtMost, WritesAtMost};
 ghost use Rattle.std.specs.Io.KnownBytes.{IsAtEnd, Consumes, ReadConsumes, WriteAppends, Appends as AppendsKnown};
-ghost use Rattle.ep_edge.specs.Edge.{Rose, AppendsFront, bytes_read, is_end};
+ghost use Rattle.ep_edge.specs.Edge.{AppendsFront, bytes_read, is_end, read_faults, write_faults};
 ghost use Rattle.ep_edge.specs.Standard.{AppendsSome, after_got, after_put};
 
 use crate::{Clock, Got, Put, Sink, Source};
@@ -57,14 +57,15 @@ impl<R: Read + Drop> Source for ReaderSource<R> {
 
     ghost faults = { λ s. s.faults };
 
+    ghost left_before = { λ _. None };
+
     /// One read of the reader, unless signals interrupt it.
     fn read(&mut self, into: &mut [u8]) -> Got
         requires { 0 < length into.old }
         ensures count { (n : ℕ) → result ≡ Got.Bytes n → (0 < n) × (n ≤ length into.new) }
         ensures ended { self.new.ended ≡ (self.old.ended || is_end result) }
         ensures after_end { (n : ℕ) → self.old.ended ≡ true → result ≡ Got.Bytes n → ⊥ }
-        ensures failed { result ≡ Got.Failed → Rose self.old.faults self.new.faults }
-        ensures faults { self.old.faults ≤ self.new.faults }
+        ensures faults { self.new.faults ≡ read_faults result self.old.faults }
         ensures bytes { Consumes (R.remaining self.old.reader) (R.remaining self.new.reader)
             (bytes_read result into.new) }
         ensures at_end { self.old.ended ≡ false → result ≡ Got.End → IsAtEnd (R.remaining self.new.reader) }
@@ -123,9 +124,8 @@ impl<W: Write + Drop> Sink for WriterSink<W> {
     /// As many writes of the writer as it needs to take the bytes, and a flush.
     fn write(&mut self, bytes: &[u8]) -> Put
         requires { 0 < length bytes.now }
-        ensures failed { result ≡ Put.Failed → AppendsFront None None bytes.now
-            × Rose self.old.faults self.new.faults }
-        ensures faults { self.old.faults ≤ self.new.faults }
+        ensures failed { result ≡ Put.Failed → AppendsFront None None bytes.now }
+        ensures faults { self.new.faults ≡ write_faults result self.old.faults }
         ensures written { result ≡ Put.Done →
             AppendsKnown (W.contents self.old.writer) (W.contents self.new.writer) bytes.now }
         ensures not_written { result ≡ Put.Failed →

@@ -98,11 +98,13 @@ enum Step {
     Move(usize),
 }
 
-/// Reads of `x`, and writes that keep what they take, as the steps say and then without an end or a limit.
+/// Reads of `x`, and writes that keep what they take, as the steps say and then without an end or a limit. A flush
+/// takes a step too, and the bytes held by then are flushed.
 #[derive(Drop)]
 struct Troubled<'a> {
     steps: &'a [Step],
     held: Vec<u8>,
+    flushed: usize,
 }
 
 impl Troubled<'_> {
@@ -137,6 +139,8 @@ impl Write for Troubled<'_> {
     }
 
     fn flush(&mut self) -> io::Result<()> {
+        self.next_count(0)?;
+        self.flushed = self.held.len();
         Ok(())
     }
 }
@@ -145,8 +149,13 @@ impl Write for Troubled<'_> {
 fn a_reader_source_meets_trouble(rt: HostRuntime) {
     let steps = [
         Step::Interrupt,
+        Step::Interrupt,
         Step::Move(2),
         Step::Fail,
+        Step::Interrupt,
+        Step::Interrupt,
+        Step::Interrupt,
+        Step::Move(1),
         Step::Interrupt,
         Step::Move(0),
     ];
@@ -154,12 +163,14 @@ fn a_reader_source_meets_trouble(rt: HostRuntime) {
     let mut source = ReaderSource::new(Troubled {
         steps: &steps,
         held,
+        flushed: 0,
     });
 
     // After its end the reader would give bytes again.
-    let wants: [(Got, &[u8]); 4] = [
+    let wants: [(Got, &[u8]); 5] = [
         (Got::Bytes(2), b"xx"),
         (Got::Failed, b""),
+        (Got::Bytes(1), b"x"),
         (Got::End, b""),
         (Got::End, b""),
     ];
@@ -171,33 +182,45 @@ fn a_writer_sink_goes_on_after_short_writes(rt: HostRuntime) {
     let steps = [
         Step::Move(2),
         Step::Interrupt,
+        Step::Interrupt,
         Step::Move(1),
+        Step::Interrupt,
+        Step::Interrupt,
+        Step::Interrupt,
         Step::Move(3),
+        Step::Move(0),
         Step::Fail,
         Step::Move(1),
         Step::Move(0),
+        Step::Move(1),
+        Step::Fail,
     ];
     let held = Vec::new(rt.alloc());
     let mut writer = Troubled {
         steps: &steps,
         held,
+        flushed: 0,
     };
     let mut sink = WriterSink::new(&mut writer);
-    let writes: [(&[u8], Put); 4] = [
+
+    // The third is of a writer that takes no byte any more, and the fourth one whose flush fails.
+    let writes: [(&[u8], Put); 5] = [
         (b"abcdef", Put::Done),
         (b"gh", Put::Failed),
         (b"ij", Put::Failed),
-        (b"k", Put::Done),
+        (b"k", Put::Failed),
+        (b"l", Put::Done),
     ];
     for (bytes, want) in writes {
         assert!(rt; !bytes.is_empty());
         assert_eq!(rt; sink.write(bytes), want);
     }
     drop(sink);
-    assert!(rt; writer.held.as_slice() == b"abcdefik".as_slice());
+    assert!(rt; writer.held.as_slice() == b"abcdefikl".as_slice());
+    assert_eq!(rt; writer.flushed, 9);
 }
 
-/// A system's clock that stands so many seconds after 1970, or can't be read.
+/// A system's clock that stands so many milliseconds after 1970, or can't be read.
 #[derive(Drop)]
 struct Standing(Option<u64>);
 
@@ -208,7 +231,7 @@ impl rt::Clock for Standing {
 
     fn since_1970(&self) -> io::Result<Duration> {
         match self.0 {
-            Some(seconds) => Ok(Duration::from_secs(seconds)),
+            Some(milliseconds) => Ok(Duration::from_millis(milliseconds)),
             None => Err(io::Error::from(ErrorKind::Other)),
         }
     }
@@ -218,12 +241,16 @@ impl rt::Clock for Standing {
 fn a_system_clock_counts_nanoseconds(rt: HostRuntime) {
     let clocks = [
         (None, 0),
-        (Some(1), 1_000_000_000),
-        (Some(4_611_686_018), 4_611_686_018_000_000_000),
-        (Some(5_000_000_000), 4_611_686_018_427_387_903),
+        (Some(1), 1_000_000),
+        (Some(4_611_686_018_427), 4_611_686_018_427_000_000),
+        (Some(5_000_000_000_000), 4_611_686_018_427_387_903),
     ];
-    for (seconds, want) in clocks {
-        expect_moments(&rt, &mut SystemClock::new(Standing(seconds)), &[want, want]);
+    for (milliseconds, want) in clocks {
+        expect_moments(
+            &rt,
+            &mut SystemClock::new(Standing(milliseconds)),
+            &[want, want],
+        );
     }
 }
 

@@ -4,4 +4,4 @@ use Rattle.ep_edge.proofs.memory_sink.MemorySinkSink.write.Goals as goal
 
 pub returns-then-count-bytes-clause-failed : goal.returns-then-count-bytes-clause-failed
 returns-then-count-bytes-clause-failed c =
-    λ _. (appends_front _ _ _ c.min-count.result (search rules), search rules)
+    λ _. appends_front _ _ _ c.min-count.result (search rules)
