@@ -1,7 +1,7 @@
 -- What a connection leaves to others it doesn't answer.
 use Rattle.std.proofs.Common.{◌≡◌, ℕ, Bool, true, false, nat_lt, if◌then◌else◌, List, [], Result, Ok, Err, refl}
 use Rattle.ep_model.specs.declared.data.CallData.{CallData}
-use Rattle.ep_model.specs.declared.status.TheConstants.{NOT_MY_VBUCKET}
+use Rattle.ep_model.specs.Statuses.{not_my_vbucket}
 use Rattle.mcbp_frame.specs.declared.frame.FrameData.{FrameData}
 use Rattle.mcbp_ops.specs.declared.op.Bad.{Bad}
 use Rattle.mcbp_ops.specs.declared.op.OpData.{OpData}
@@ -16,7 +16,7 @@ use Rattle.conn_core.specs.Acts.{act_of, act_of_op, own_text, own_text_of_op, fe
 engine_silent_op : (vbuckets : ℕ) (f : FrameData) (op : Result OpData Bad) (call : CallData) → Engine call ≡ act_of_op vbuckets f op → own_text_of_op vbuckets f op ≡ []
 engine_silent_op vbuckets f (Err bad) call e = cc
 engine_silent_op vbuckets f (Ok (ops.Engine found)) call e =
-    elim (nat_lt f.vbucket vbuckets) as (λ b. Engine call ≡ (if b then Engine found else Answered) → (if b then [] else status_text f NOT_MY_VBUCKET) ≡ []) [ true ↦ λ e. refl | false ↦ λ e. cc ] e
+    elim (nat_lt f.vbucket vbuckets) as (λ b. Engine call ≡ (if b then Engine found else Answered) → (if b then [] else status_text f not_my_vbucket) ≡ []) [ true ↦ λ e. refl | false ↦ λ e. cc ] e
 engine_silent_op vbuckets f (Ok ops.Noop) call e = cc
 engine_silent_op vbuckets f (Ok ops.Version) call e = cc
 engine_silent_op vbuckets f (Ok (ops.Stat group)) call e = cc
@@ -30,7 +30,7 @@ engine_silent vbuckets f call e = engine_silent_op vbuckets f (op_of f) call e
 stat_silent_op : (vbuckets : ℕ) (f : FrameData) (op : Result OpData Bad) (group : List ℕ) → Stat group ≡ act_of_op vbuckets f op → own_text_of_op vbuckets f op ≡ []
 stat_silent_op vbuckets f (Err bad) group e = cc
 stat_silent_op vbuckets f (Ok (ops.Engine found)) group e =
-    elim (nat_lt f.vbucket vbuckets) as (λ b. Stat group ≡ (if b then Engine found else Answered) → (if b then [] else status_text f NOT_MY_VBUCKET) ≡ []) [ true ↦ λ e. refl | false ↦ λ e. cc ] e
+    elim (nat_lt f.vbucket vbuckets) as (λ b. Stat group ≡ (if b then Engine found else Answered) → (if b then [] else status_text f not_my_vbucket) ≡ []) [ true ↦ λ e. refl | false ↦ λ e. cc ] e
 stat_silent_op vbuckets f (Ok ops.Noop) group e = cc
 stat_silent_op vbuckets f (Ok ops.Version) group e = cc
 stat_silent_op vbuckets f (Ok (ops.Stat found)) group e = refl

@@ -2,7 +2,7 @@
 use Rattle.std.specs.Prelude.{ℕ, Bool, true, false, nat_lt, if◌then◌else◌, ◌+◌, ◌≤◌, List, [], length, Result, Ok, Err, codes}
 use Rattle.ep_model.specs.History.{call_data}
 use Rattle.ep_model.specs.Limits.{IsWithin}
-use Rattle.ep_model.specs.declared.status.TheConstants.{SUCCESS, NOT_MY_VBUCKET}
+use Rattle.ep_model.specs.Statuses.{success, not_my_vbucket}
 use Rattle.mcbp_frame.specs.declared.frame.FrameData.{FrameData}
 use Rattle.mcbp_frame.specs.Response.{response}
 use Rattle.mcbp_ops.specs.declared.op.Bad.{Bad}
@@ -26,7 +26,7 @@ act_data (acts.Stat group) = Stat group.now
 
 -- a response that is a value alone
 abbrev pub value_text : FrameData → List ℕ → List ℕ
-value_text f value = response f.opcode SUCCESS f.opaque 0 0 [] [] value
+value_text f value = response f.opcode success f.opaque 0 0 [] [] value
 
 -- a call goes on where its vBucket is one of so many
 abbrev pub act_of_op : ℕ → FrameData → Result OpData Bad → ActData
@@ -67,12 +67,12 @@ features_after features f = features_after_op features (op_of f)
 -- the answers that a connection gives by itself; a refusal is written also for a quiet opcode
 abbrev pub own_text_of_op : ℕ → FrameData → Result OpData Bad → List ℕ
 own_text_of_op vbuckets f (Err bad) = status_text f (bad_status bad)
-own_text_of_op vbuckets f (Ok (ops.Engine call)) = if nat_lt f.vbucket vbuckets then [] else status_text f NOT_MY_VBUCKET
-own_text_of_op vbuckets f (Ok ops.Noop) = status_text f SUCCESS
+own_text_of_op vbuckets f (Ok (ops.Engine call)) = if nat_lt f.vbucket vbuckets then [] else status_text f not_my_vbucket
+own_text_of_op vbuckets f (Ok ops.Noop) = status_text f success
 own_text_of_op vbuckets f (Ok ops.Version) = value_text f (codes "ep_server 1")
 own_text_of_op vbuckets f (Ok (ops.Stat group)) = []
 own_text_of_op vbuckets f (Ok (ops.Hello asked)) = value_text f (granted (asked_features asked))
-own_text_of_op vbuckets f (Ok ops.Quit) = if is_silent f.opcode SUCCESS then [] else status_text f SUCCESS
+own_text_of_op vbuckets f (Ok ops.Quit) = if is_silent f.opcode success then [] else status_text f success
 
 abbrev pub own_text : ℕ → FrameData → List ℕ
 own_text vbuckets f = own_text_of_op vbuckets f (op_of f)

@@ -1,3 +1,4 @@
 pub mod Acts
+pub mod Exchange
 pub mod Conns
 pub mod Hello

@@ -1,6 +1,6 @@
 // One connection's state.
 ghost use Rattle.std.specs.Prelude.{◌≡◌, ◌+◌, ◌<◌, ◌≤◌, ◌^◌, ◌++◌, [], length, IfOk, if◌then◌else◌};
-ghost use Rattle.ep_model.specs.declared.status.TheConstants.{SUCCESS};
+ghost use Rattle.ep_model.specs.Statuses.{success};
 ghost use Rattle.mcbp_ops.specs.Text.{is_silent, status_text};
 ghost use Rattle.conn_core.specs.Hello.{granted};
 ghost use Rattle.mcbp_frame.specs.Frames.{frame_data};
@@ -33,11 +33,11 @@ pub struct Conn {
 }
 
 impl Conn {
-    ghost use Rattle.conn_core.specs.Conns.{IsNew};
+    ghost use Rattle.conn_core.specs.Conns.{IsNew, out_room, value_room};
 
     /// A connection with empty buffers and no feature.
     pub fn new(alloc: Global) -> Result<Conn, NoMemory>
-        ensures { IfOk result (λ conn. IsNew conn × (conn.out.spare ≡ OUT_ROOM) × (conn.value.spare ≡ VALUE_ROOM)) }
+        ensures { IfOk result (λ conn. IsNew conn × (conn.out.spare ≡ out_room) × (conn.value.spare ≡ value_room)) }
     {
         Ok(Conn {
             out: Out::new(alloc, OUT_ROOM)?,
@@ -150,7 +150,7 @@ fn put_granted(out: &mut Out, frame: &Frame, features: Features)
 // Appends the answer to a Quit, unless it is quiet.
 fn put_quit(out: &mut Out, frame: &Frame)
     requires { HEADER ≤ out.old.spare }
-    ensures bytes { out.new.bytes ≡ out.old.bytes ++ (if is_silent frame.now.opcode SUCCESS then [] else status_text (frame_data frame.now) SUCCESS) }
+    ensures bytes { out.new.bytes ≡ out.old.bytes ++ (if is_silent frame.now.opcode success then [] else status_text (frame_data frame.now) success) }
     ensures room { out.new.spare + length out.new.bytes ≡ out.old.spare + length out.old.bytes }
 {
     if !is_silent(frame.opcode, status::SUCCESS) {

@@ -1,8 +1,8 @@
 // What a connection does with frames by itself, with the bytes of its answers written out.
 ghost use Rattle.std.specs.Prelude.{◌≡◌, ◌+◌, length};
-ghost use Rattle.conn_core.specs.declared.conn.TheConstants.{OUT_ROOM};
+ghost use Rattle.conn_core.specs.Conns.{out_room};
 
-use crate::{Act, Conn, OUT_ROOM};
+use crate::{Act, Conn};
 use mcbp_frame::Frame;
 use std::process::Abort;
 use std::test::Fail;
@@ -33,8 +33,8 @@ fn name_of(act: &Act) -> &'static str {
 
 // Sorts a frame where no answer is pending, of one vBucket.
 fn check(rt: &impl Abort, conn: &mut Conn, frame: &Frame, act: &str, answer: &[u8])
-    requires { conn.old.out.spare + length conn.old.out.bytes ≡ OUT_ROOM }
-    ensures { conn.new.out.spare + length conn.new.out.bytes ≡ OUT_ROOM }
+    requires { conn.old.out.spare + length conn.old.out.bytes ≡ out_room }
+    ensures { conn.new.out.spare + length conn.new.out.bytes ≡ out_room }
 {
     conn.out.cut(0);
     let done = conn.sort_frame(frame, 1);

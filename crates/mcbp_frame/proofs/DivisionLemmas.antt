@@ -8,7 +8,7 @@ use Rattle.std.proofs.lemmas.Bool.Decides.{Decides-and, Decides-eqb, Decides-lik
 use Rattle.std.proofs.lemmas.List.{append_assoc, drop-append-le, drop_at, get_or_append_left, get_or-take, length-append, length-drop, length-take-le, take-append-drop, take_at}
 use Rattle.std.proofs.lemmas.List.Folds.{concat-append}
 use Rattle.byteorder.specs.Endian.{big_from}
-use Rattle.mcbp_frame.specs.declared.frame.TheConstants.{REQUEST, HEADER, MAX_BODY}
+use Rattle.mcbp_frame.specs.Header.{request_magic, header_length, max_body}
 use Rattle.mcbp_frame.specs.Frames.{body_length, frame_length, IsFrame}
 use Rattle.mcbp_frame.specs.Division.{Divides, HasBadMagic, IsTooLong, IsPartial}
 use Rattle.mcbp_frame.specs.Laws.{IsRest}
@@ -22,13 +22,13 @@ big_from-append i (suc n) front more enough =
     cc
 
 -- a header says the same body length whatever follows it
-pub body_length-append : (front more : List ℕ) → HEADER ≤ length front → body_length (front ++ more) ≡ body_length front
+pub body_length-append : (front more : List ℕ) → header_length ≤ length front → body_length (front ++ more) ≡ body_length front
 body_length-append front more enough =
     rw (drop-append-le 8 front more (omega arith)) (big_from-append 0 4 (drop 8 front) more (omega (arith, length-drop 8 front)))
 
 -- a header says the same frame length whatever follows it
-pub frame_length-append : (front more : List ℕ) → HEADER ≤ length front → frame_length (front ++ more) ≡ frame_length front
-frame_length-append front more enough = ap (λ n. HEADER + n) (body_length-append front more enough)
+pub frame_length-append : (front more : List ℕ) → header_length ≤ length front → frame_length (front ++ more) ≡ frame_length front
+frame_length-append front more enough = ap (λ n. header_length + n) (body_length-append front more enough)
 
 -- a frame's length stands in whatever text begins with it
 pub frame_length_front : (frame more : List ℕ) → IsFrame frame → frame_length (frame ++ more) ≡ length frame
@@ -67,9 +67,9 @@ BeginsNone rest = (frame more : List ℕ) → IsFrame frame → rest ≡ frame +
 
 -- What a text that begins with a frame has of it.
 pub record HasFirst (text : List ℕ) : Type 0 where
-  pub magic : slice_index text 0 ≡ REQUEST
-  pub header : HEADER ≤ length text
-  pub body : body_length text ≤ MAX_BODY
+  pub magic : slice_index text 0 ≡ request_magic
+  pub header : header_length ≤ length text
+  pub body : body_length text ≤ max_body
   pub whole : frame_length text ≤ length text
 
 -- a text that begins with a frame has what the frame has
@@ -85,14 +85,14 @@ first_from text frame more is e = subst (λ t. HasFirst t) (sym e) (record {
 pub IsFrame-first : (text : List ℕ) → HasFirst text → IsFrame (take (frame_length text) text)
 IsFrame-first text has =
     let size : length (take (frame_length text) text) ≡ frame_length text = length-take-le (frame_length text) text has.whole in
-    let header : HEADER ≤ length (take (frame_length text) text) = omega arith in
+    let header : header_length ≤ length (take (frame_length text) text) = omega arith in
     let body : body_length (take (frame_length text) text) ≡ body_length text =
     sym (body_length-append (take (frame_length text) text) (drop (frame_length text) text) header) ∙ ap (λ t. body_length t) (take-append-drop (frame_length text) text) in
     record {
       magic = get_or-take (frame_length text) text 0 0 (omega arith) ∙ has.magic;
       header = header;
       body = omega arith;
-      whole = size ∙ ap (λ n. HEADER + n) (sym body);
+      whole = size ∙ ap (λ n. header_length + n) (sym body);
     }
 
 -- it is followed by the bytes that come after as many
@@ -121,11 +121,11 @@ rest_over rest (inr (inr long)) = too_long_over long
 pub first_or_rest : (text : List ℕ) → HasFirst text ⊎ IsRest text
 first_or_rest text = elim (cases_eq (length text) 0) [
   | inl e ↦ inr (inl (record { magic = λ h. absurd (omega arith); body = λ h. absurd (omega arith); short = λ h. absurd (omega arith) }))
-  | inr some ↦ elim (cases_eq (slice_index text 0) REQUEST) [
+  | inr some ↦ elim (cases_eq (slice_index text 0) request_magic) [
     | inr other ↦ inr (inr (inl (record { some = omega arith; magic = other })))
-    | inl magic ↦ elim (cases_lt (length text) HEADER) [
+    | inl magic ↦ elim (cases_lt (length text) header_length) [
       | inl few ↦ inr (inl (record { magic = λ h. magic; body = λ h. absurd (omega arith); short = λ h. absurd (omega arith) }))
-      | inr header ↦ elim (cases_lt MAX_BODY (body_length text)) [
+      | inr header ↦ elim (cases_lt max_body (body_length text)) [
         | inl long ↦ inr (inr (inr (record { magic = magic; header = header; body = long })))
         | inr fits ↦ elim (cases_lt (length text) (frame_length text)) [
           | inl short ↦ inr (inl (record { magic = λ h. magic; body = λ h. fits; short = λ h. short }))
@@ -138,7 +138,7 @@ first_or_rest text = elim (cases_eq (length text) 0) [
 
 -- whether a text begins with a frame
 abbrev pub begins_frame : List ℕ → Bool
-begins_frame text = eqb (slice_index text 0) REQUEST && leb HEADER (length text) && leb (body_length text) MAX_BODY && leb (frame_length text) (length text)
+begins_frame text = eqb (slice_index text 0) request_magic && leb header_length (length text) && leb (body_length text) max_body && leb (frame_length text) (length text)
 
 -- a test of numbers
 Decides-leb : (a b : ℕ) → Decides (leb a b) (a ≤ b)
@@ -149,7 +149,7 @@ pub Decides-begins_frame : (text : List ℕ) → Decides (begins_frame text) (Ha
 Decides-begins_frame text = Decides-like (begins_frame text)
     (λ h. record { magic = h.0.0.0; header = h.0.0.1; body = h.0.1; whole = h.1 })
     (λ has. (((has.magic, has.header), has.body), has.whole))
-    (Decides-and _ _ (Decides-and _ _ (Decides-and _ _ (Decides-eqb (slice_index text 0) REQUEST) (Decides-leb HEADER (length text))) (Decides-leb (body_length text) MAX_BODY)) (Decides-leb (frame_length text) (length text)))
+    (Decides-and _ _ (Decides-and _ _ (Decides-and _ _ (Decides-eqb (slice_index text 0) request_magic) (Decides-leb header_length (length text))) (Decides-leb (body_length text) max_body)) (Decides-leb (frame_length text) (length text)))
 
 -- what no frame begins is a rest, of one of the three kinds
 pub rest_from_none : (rest : List ℕ) → BeginsNone rest → IsRest rest
@@ -172,8 +172,8 @@ pub bad_magic_or_too_long : (rest : List ℕ) → HasBadMagic rest → IsTooLong
 bad_magic_or_too_long rest bad long = bad.magic long.magic
 
 -- a partial rest is shorter than the longest frame
-pub partial_below : (rest : List ℕ) → IsPartial rest → length rest < HEADER + MAX_BODY
-partial_below rest partial = elim (cases_lt (length rest) HEADER) [ inl few ↦ omega arith | inr header ↦ omega (arith, partial.body header, partial.short header) ]
+pub partial_below : (rest : List ℕ) → IsPartial rest → length rest < header_length + max_body
+partial_below rest partial = elim (cases_lt (length rest) header_length) [ inl few ↦ omega arith | inr header ↦ omega (arith, partial.body header, partial.short header) ]
 
 -- bytes that follow don't mend another first byte than a request's
 pub bad_magic-append : (rest more : List ℕ) → HasBadMagic rest → HasBadMagic (rest ++ more)

@@ -5,7 +5,7 @@ use Rattle.std.proofs.Math.Seq.{take-append_seam}
 use Rattle.mcbp_frame.specs.declared.frame.Frame.{Frame}
 use Rattle.mcbp_frame.specs.declared.frame.FrameData.{FrameData}
 use Rattle.mcbp_frame.specs.declared.feeder.FeederData.{FeederData}
-use Rattle.mcbp_frame.specs.declared.frame.TheConstants.{HEADER}
+use Rattle.mcbp_frame.specs.Header.{header_length}
 use Rattle.mcbp_frame.specs.Frames.{frame_length, IsFrame, frame_at, frame_data}
 use Rattle.mcbp_frame.specs.Feeder.{first_frame, after_next}
 use Rattle.mcbp_frame.specs.declared.feeder.Next.TheVariants as nexts
@@ -16,7 +16,7 @@ abbrev held : List ℕ → ℕ → ℕ → ℕ → FeederData
 held buffer start end at = record { at = at; rest = take (end - start) (drop start buffer) }
 
 -- a header and the body of the first frame are as long as the frame
-pub frame_length-body : (rest : List ℕ) (at : ℕ) (frame : Frame) → IsFrame (first_frame rest) → frame_data frame ≡ frame_at (first_frame rest) at → HEADER + length frame.body.now ≡ frame_length rest
+pub frame_length-body : (rest : List ℕ) (at : ℕ) (frame : Frame) → IsFrame (first_frame rest) → frame_data frame ≡ frame_at (first_frame rest) at → header_length + length frame.body.now ≡ frame_length rest
 frame_length-body rest at frame whole says =
     let body : length frame.body.now ≡ length (drop 24 (take (frame_length rest) rest)) = ap (λ (d : FrameData). length d.body) says in
     let cut = length-drop 24 (take (frame_length rest) rest) in
@@ -41,7 +41,7 @@ drop-held buffer start end n h =
     rw (split, drop-take n (end - (start + n)) (drop start buffer), drop-drop n start buffer) refl
 
 -- what is left once the first frame is handed out
-pub held-after_frame : (buffer : List ℕ) (start end at : ℕ) (frame : Frame) → start ≤ end → end ≤ length buffer → IsFrame (first_frame (take (end - start) (drop start buffer))) × (frame_data frame ≡ frame_at (first_frame (take (end - start) (drop start buffer))) at) → held buffer (start + (HEADER + length frame.body.now)) end (at + (HEADER + length frame.body.now)) ≡ after_next (held buffer start end at) (nexts.Frame frame)
+pub held-after_frame : (buffer : List ℕ) (start end at : ℕ) (frame : Frame) → start ≤ end → end ≤ length buffer → IsFrame (first_frame (take (end - start) (drop start buffer))) × (frame_data frame ≡ frame_at (first_frame (take (end - start) (drop start buffer))) at) → held buffer (start + (header_length + length frame.body.now)) end (at + (header_length + length frame.body.now)) ≡ after_next (held buffer start end at) (nexts.Frame frame)
 held-after_frame buffer start end at frame ordered within given =
     let rest = take (end - start) (drop start buffer) in
     let n = frame_length-body rest at frame given.0 given.1 in

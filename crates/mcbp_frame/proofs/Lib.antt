@@ -1,3 +1,4 @@
 pub mod FirstFrame
 pub mod HeldBytes
 pub mod DivisionLemmas
+pub mod Streams

@@ -1,7 +1,7 @@
 -- The division of a text into frames and a rest. It knows no buffer and no pieces.
 use Rattle.std.specs.Prelude.{◌≡◌, ◌≢◌, ℕ, ◌<◌, ◌≤◌, List, ◌++◌, length, slice_index}
 use Rattle.std.specs.List.{AllByRecursion, concat}
-use Rattle.mcbp_frame.specs.declared.frame.TheConstants.{REQUEST, HEADER, MAX_BODY}
+use Rattle.mcbp_frame.specs.Header.{request_magic, header_length, max_body}
 use Rattle.mcbp_frame.specs.Frames.{body_length, frame_length, IsFrame}
 
 -- The text is these frames and then the rest, which doesn't begin with a frame.
@@ -13,16 +13,16 @@ pub record Divides (text : List ℕ) (frames : List (List ℕ)) (rest : List ℕ
 -- it begins with another byte than a request
 pub record HasBadMagic (rest : List ℕ) : Type 0 where
   pub some : 0 < length rest
-  pub magic : slice_index rest 0 ≢ REQUEST
+  pub magic : slice_index rest 0 ≢ request_magic
 
 -- its header says a body that is too long
 pub record IsTooLong (rest : List ℕ) : Type 0 where
-  pub magic : slice_index rest 0 ≡ REQUEST
-  pub header : HEADER ≤ length rest
-  pub body : MAX_BODY < body_length rest
+  pub magic : slice_index rest 0 ≡ request_magic
+  pub header : header_length ≤ length rest
+  pub body : max_body < body_length rest
 
 -- It ends before the frame does that it begins: a proper front of a frame, nothing among them.
 pub record IsPartial (rest : List ℕ) : Type 0 where
-  pub magic : 0 < length rest → slice_index rest 0 ≡ REQUEST
-  pub body : HEADER ≤ length rest → body_length rest ≤ MAX_BODY
-  pub short : HEADER ≤ length rest → length rest < frame_length rest
+  pub magic : 0 < length rest → slice_index rest 0 ≡ request_magic
+  pub body : header_length ≤ length rest → body_length rest ≤ max_body
+  pub short : header_length ≤ length rest → length rest < frame_length rest

@@ -4,7 +4,7 @@ use Rattle.std.specs.Prelude.{◌≡◌, ℕ, ◌+◌, ◌≤◌, List, length, 
 use Rattle.byteorder.specs.Endian.{big_number}
 use Rattle.mcbp_frame.specs.declared.frame.Frame.{Frame}
 use Rattle.mcbp_frame.specs.declared.frame.FrameData.{FrameData}
-use Rattle.mcbp_frame.specs.declared.frame.TheConstants.{REQUEST, HEADER, MAX_BODY}
+use Rattle.mcbp_frame.specs.Header.{request_magic, header_length, max_body}
 
 -- the body length that 24 bytes of header say
 abbrev pub body_length : List ℕ → ℕ
@@ -12,13 +12,13 @@ body_length bytes = big_number 4 (drop 8 bytes)
 
 -- the length of the frame that begins with 24 bytes of header
 abbrev pub frame_length : List ℕ → ℕ
-frame_length bytes = HEADER + body_length bytes
+frame_length bytes = header_length + body_length bytes
 
 -- these bytes are one frame
 pub record IsFrame (bytes : List ℕ) : Type 0 where
-  pub magic : slice_index bytes 0 ≡ REQUEST
-  pub header : HEADER ≤ length bytes
-  pub body : body_length bytes ≤ MAX_BODY
+  pub magic : slice_index bytes 0 ≡ request_magic
+  pub header : header_length ≤ length bytes
+  pub body : body_length bytes ≤ max_body
   pub whole : length bytes ≡ frame_length bytes
 
 -- what a frame's bytes say

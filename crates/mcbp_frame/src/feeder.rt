@@ -1,8 +1,9 @@
 // Bytes in pieces of any size become whole frames and a rest.
-ghost use Rattle.std.specs.Prelude.{◌≡◌, ◌+◌, ◌-◌, ◌<◌, ◌≤◌, ◌^◌, ◌++◌, [], length, take, drop, min, IfOk};
+ghost use Rattle.std.specs.Prelude.{◌≡◌, false, ◌+◌, ◌-◌, ◌<◌, ◌≤◌, ◌^◌, ◌++◌, [], length, take, drop, min, IfOk};
 ghost use Rattle.std.specs.Borrow.{sem};
 ghost use Rattle.std.specs.Io.BufRead.{Rests};
 ghost use Rattle.mcbp_frame.specs.Feeder.{Gives, after_next};
+ghost use Rattle.mcbp_frame.specs.Header.{feeder_room};
 ghost use Rattle.mcbp_frame.specs.Frames.{IsFrame, body_length, frame_at, frame_data};
 
 use crate::frame::{Frame, HEADER, MAX_BODY, REQUEST};
@@ -38,7 +39,8 @@ pub enum Next<'a> {
 ///
 /// A caller that takes frames until `Need` before it feeds again has each byte moved once at most, however the
 /// pieces are cut: bytes move only in `feed`, to the front of the buffer, and only those of a frame that has
-/// begun and isn't whole.
+/// begun and isn't whole, where they are no more than those handed out before them or there is no room behind
+/// them. So a stream of short frames stays at the front of the buffer.
 #[derive(Drop)]
 pub struct Feeder {
     buffer: Vec<u8>,
@@ -48,15 +50,16 @@ pub struct Feeder {
 }
 
 impl Model for Feeder {
-    ghost use Rattle.std.specs.Prelude.{◌≡◌, ◌-◌, ◌≤◌, length, take, drop};
+    ghost use Rattle.std.specs.Prelude.{◌≡◌, ◌+◌, ◌-◌, ◌<◌, ◌≤◌, ◌^◌, length, take, drop};
     ghost use Rattle.mcbp_frame.specs.declared.feeder.FeederData.{FeederData};
-    ghost use Rattle.mcbp_frame.specs.declared.feeder.TheConstants.{CAPACITY};
+    ghost use Rattle.mcbp_frame.specs.Header.{feeder_room};
 
     ghost Value = { FeederData };
 
     ghost view = { λ f. record { at = f.at; rest = take (f.end - f.start) (drop f.start f.buffer.items) } };
 
-    ghost invariant = { λ f. (f.start ≤ f.end) × (f.end ≤ length f.buffer.items) × (length f.buffer.items ≡ CAPACITY) };
+    ghost invariant = { λ f. (f.start ≤ f.end) × (f.end ≤ length f.buffer.items) × (length f.buffer.items ≡ feeder_room)
+        × (f.at + (f.end - f.start) < 2 ^ 64) };
 }
 
 impl Feeder {
@@ -78,12 +81,12 @@ impl Feeder {
     /// Takes the next piece of the stream, or as much of it as there is room for, and answers how many bytes it took.
     pub fn feed(&mut self, piece: &[u8]) -> usize
         requires { self.old.at + length self.old.rest + length piece.now < 2 ^ 64 }
-        ensures count { result ≡ min (length piece.now) (CAPACITY - length self.old.rest) }
+        ensures count { result ≡ min (length piece.now) (feeder_room - length self.old.rest) }
         ensures rest { self.new.rest ≡ self.old.rest ++ take result piece.now }
         ensures at { self.new.at ≡ self.old.at }
     {
         let taken = piece.len().min(CAPACITY - (self.end - self.start));
-        if taken > CAPACITY - self.end {
+        if is_move_due(self.start, self.end, taken) {
             move_to_front(&mut self.buffer, self.start, self.end);
             self.end -= self.start;
             self.start = 0;
@@ -95,7 +98,6 @@ impl Feeder {
 
     /// Hands out the next frame, in constant time. At anything else it changes nothing, and answers the same again.
     pub fn next(&mut self) -> Next<'_>
-        requires { self.old.at + length self.old.rest < 2 ^ 64 }
         ensures gives { Gives self.old result }
         ensures* after { sem 𝓛 (Rests the_row self.entry (λ new. new ≡ after_next self.old result)) }
     {
@@ -131,6 +133,16 @@ impl Feeder {
     {
         self.at
     }
+}
+
+// Whether the bytes from `start` to `end` go to the front before `taken` more come behind them: they do where that
+// costs no more than was handed out, or there is no room behind them.
+fn is_move_due(start: usize, end: usize, taken: usize) -> bool
+    requires ordered { start ≤ end }
+    requires within { end ≤ feeder_room }
+    ensures room { result ≡ false → taken ≤ feeder_room - end }
+{
+    end - start <= start || taken > CAPACITY - end
 }
 
 // Moves the bytes from `start` to `end` to the front.

@@ -9,7 +9,10 @@ mod response;
 
 pub use feeder::{Feeder, FeederData, Next};
 pub use frame::{Frame, FrameData, HEADER, MAX_BODY, REQUEST, RESPONSE};
-pub use laws::{division_goes_on, kinds_are_apart, one_division, rest_is_of_a_kind, some_division};
+pub use laws::{
+    division_goes_on, kinds_are_apart, one_division, rest_is_of_a_kind, some_division,
+    stream_divides,
+};
 pub use response::put_response;
 
 #[cfg(test)]

@@ -1,7 +1,7 @@
 -- A frame of each kind that isn't refused.
 use Rattle.std.proofs.Common.{◌≡◌, ℕ, List, [], ◌∷◌, ◌++◌, length, replicate, Ok, Result, IsOk, refl, sym, subst, arith}
 use Rattle.std.proofs.lemmas.Grind.{common_steps}
-use Rattle.mcbp_frame.specs.declared.frame.TheConstants.{REQUEST}
+use Rattle.mcbp_frame.specs.Header.{request_magic}
 use Rattle.mcbp_frame.specs.Frames.{IsFrame, frame_at}
 use Rattle.mcbp_ops.specs.declared.kind.Kind.{Kind}
 use Rattle.mcbp_ops.specs.declared.kind.Kind.TheVariants.{Get, Store, Join, Count, Delete, Touch, Observe, Failovers, SetState, GetState, Stat, Hello, Noop, Version, Quit}
@@ -14,7 +14,7 @@ use Rattle.mcbp_ops.specs.Laws.{EachOpcodeIsServed, QuietReadsAsPlain, RefusalsA
 -- a frame with this body, of less than 256 bytes
 abbrev frame_with : ℕ → ℕ → ℕ → List ℕ → List ℕ
 frame_with opcode key_len extras_len body =
-    REQUEST ∷ opcode ∷ 0 ∷ key_len ∷ extras_len ∷ 0 ∷ 0 ∷ 0 ∷ 0 ∷ 0 ∷ 0 ∷ length body ∷ replicate 12 0 ++ body
+    request_magic ∷ opcode ∷ 0 ∷ key_len ∷ extras_len ∷ 0 ∷ 0 ∷ 0 ∷ 0 ∷ 0 ∷ 0 ∷ length body ∷ replicate 12 0 ++ body
 
 -- a frame of a kind, whose key, extras and value have lengths that the kind allows; a state is 1
 abbrev frame_of : ℕ → Kind → List ℕ

@@ -1,6 +1,6 @@
 -- The checks that a frame of a shape has to pass.
 use Rattle.std.specs.Prelude.{ℕ, ◌+◌, ◌%◌, Bool, nat_le, ◌==◌, ◌&&◌, ◌||◌, if◌then◌else◌, List, length, take, drop, Option, Some, None}
-use Rattle.ep_model.specs.declared.limits.TheConstants.{MAX_KEY, MAX_VALUE}
+use Rattle.ep_model.specs.Limits.{max_key, max_value}
 use Rattle.mcbp_frame.specs.declared.frame.FrameData.{FrameData}
 use Rattle.mcbp_ops.specs.declared.op.Bad.{Bad}
 use Rattle.mcbp_ops.specs.declared.op.Bad.TheVariants.{Invalid, TooLarge}
@@ -29,13 +29,13 @@ takes_extras OneOrFour len = len == 1 || len == 4
 
 abbrev pub takes_key : KeyRule → ℕ → Bool
 takes_key keys.Absent len = len == 0
-takes_key keys.Optional len = nat_le len MAX_KEY
-takes_key keys.Needed len = nat_le 1 len && nat_le len MAX_KEY
+takes_key keys.Optional len = nat_le len max_key
+takes_key keys.Needed len = nat_le 1 len && nat_le len max_key
 
 -- how a rule refuses this length of the value, if it does
 abbrev pub value_refusal : ValueRule → ℕ → Option Bad
 value_refusal values.Absent len = if len == 0 then None else Some Invalid
-value_refusal values.Any len = if nat_le len MAX_VALUE then None else Some TooLarge
+value_refusal values.Any len = if nat_le len max_value then None else Some TooLarge
 value_refusal values.Eight len = if len == 8 then None else Some Invalid
 value_refusal values.Even len = if len % 2 == 0 then None else Some Invalid
 value_refusal values.NotRead len = None

@@ -2,7 +2,7 @@
 use Rattle.std.specs.Prelude.{ℕ, Bool, true, false, ◌==◌, ◌||◌, if◌then◌else◌, List, [], ◌++◌, Result, Ok, Err}
 use Rattle.byteorder.specs.Endian.{big_bytes}
 use Rattle.ep_model.specs.declared.call.Reply.{Reply}
-use Rattle.ep_model.specs.declared.status.TheConstants.{SUCCESS, KEY_NOT_FOUND}
+use Rattle.ep_model.specs.Statuses.{success, key_not_found}
 use Rattle.mcbp_frame.specs.declared.frame.FrameData.{FrameData}
 use Rattle.mcbp_frame.specs.Response.{response}
 use Rattle.mcbp_ops.specs.declared.kind.Kind.{Kind}
@@ -24,8 +24,8 @@ hides_success opcode =
 abbrev pub is_silent : ℕ → ℕ → Bool
 is_silent opcode status =
     if opcode == 0x17 then true else
-    if hides_misses opcode then status == KEY_NOT_FOUND else
-    if hides_success opcode then status == SUCCESS else false
+    if hides_misses opcode then status == key_not_found else
+    if hides_success opcode then status == success else false
 
 -- the uuid and the sequence number of a mutation, where they are to be shown
 abbrev pub mutation_extras : Reply → Bool → List ℕ
@@ -37,23 +37,23 @@ answer_text f status cas extras key value = response f.opcode status f.opaque ca
 
 -- a success: which of the reply and of the value it shows
 abbrev pub success_text : FrameData → Reply → List ℕ → Bool → Kind → List ℕ
-success_text f reply value seqno_feature (Get false) = answer_text f SUCCESS reply.cas (big_bytes 4 reply.flags) [] value
-success_text f reply value seqno_feature (Get true) = answer_text f SUCCESS reply.cas (big_bytes 4 reply.flags) (key_of f) value
-success_text f reply value seqno_feature (Touch true) = answer_text f SUCCESS reply.cas (big_bytes 4 reply.flags) [] value
-success_text f reply value seqno_feature (Touch false) = answer_text f SUCCESS reply.cas [] [] []
-success_text f reply value seqno_feature (Store kind) = answer_text f SUCCESS reply.cas (mutation_extras reply seqno_feature) [] []
-success_text f reply value seqno_feature (Join front) = answer_text f SUCCESS reply.cas (mutation_extras reply seqno_feature) [] []
-success_text f reply value seqno_feature Delete = answer_text f SUCCESS reply.cas (mutation_extras reply seqno_feature) [] []
-success_text f reply value seqno_feature (Count down) = answer_text f SUCCESS reply.cas (mutation_extras reply seqno_feature) [] value
-success_text f reply value seqno_feature Observe = answer_text f SUCCESS 0 [] [] value
-success_text f reply value seqno_feature Failovers = answer_text f SUCCESS 0 [] [] value
-success_text f reply value seqno_feature GetState = answer_text f SUCCESS 0 [] [] value
-success_text f reply value seqno_feature SetState = answer_text f SUCCESS 0 [] [] []
-success_text f reply value seqno_feature Stat = answer_text f SUCCESS 0 [] [] []
-success_text f reply value seqno_feature Hello = answer_text f SUCCESS 0 [] [] []
-success_text f reply value seqno_feature Noop = answer_text f SUCCESS 0 [] [] []
-success_text f reply value seqno_feature Version = answer_text f SUCCESS 0 [] [] []
-success_text f reply value seqno_feature Quit = answer_text f SUCCESS 0 [] [] []
+success_text f reply value seqno_feature (Get false) = answer_text f success reply.cas (big_bytes 4 reply.flags) [] value
+success_text f reply value seqno_feature (Get true) = answer_text f success reply.cas (big_bytes 4 reply.flags) (key_of f) value
+success_text f reply value seqno_feature (Touch true) = answer_text f success reply.cas (big_bytes 4 reply.flags) [] value
+success_text f reply value seqno_feature (Touch false) = answer_text f success reply.cas [] [] []
+success_text f reply value seqno_feature (Store kind) = answer_text f success reply.cas (mutation_extras reply seqno_feature) [] []
+success_text f reply value seqno_feature (Join front) = answer_text f success reply.cas (mutation_extras reply seqno_feature) [] []
+success_text f reply value seqno_feature Delete = answer_text f success reply.cas (mutation_extras reply seqno_feature) [] []
+success_text f reply value seqno_feature (Count down) = answer_text f success reply.cas (mutation_extras reply seqno_feature) [] value
+success_text f reply value seqno_feature Observe = answer_text f success 0 [] [] value
+success_text f reply value seqno_feature Failovers = answer_text f success 0 [] [] value
+success_text f reply value seqno_feature GetState = answer_text f success 0 [] [] value
+success_text f reply value seqno_feature SetState = answer_text f success 0 [] [] []
+success_text f reply value seqno_feature Stat = answer_text f success 0 [] [] []
+success_text f reply value seqno_feature Hello = answer_text f success 0 [] [] []
+success_text f reply value seqno_feature Noop = answer_text f success 0 [] [] []
+success_text f reply value seqno_feature Version = answer_text f success 0 [] [] []
+success_text f reply value seqno_feature Quit = answer_text f success 0 [] [] []
 
 -- a response that is a status alone
 abbrev pub status_text : FrameData → ℕ → List ℕ
@@ -67,4 +67,4 @@ kind_text f reply value seqno_feature (Err bad) = status_text f reply.status
 abbrev pub reply_text : FrameData → Reply → List ℕ → Bool → List ℕ
 reply_text f reply value seqno_feature =
     if is_silent f.opcode reply.status then [] else
-    if reply.status == SUCCESS then kind_text f reply value seqno_feature (kind_of f.opcode) else status_text f reply.status
+    if reply.status == success then kind_text f reply value seqno_feature (kind_of f.opcode) else status_text f reply.status

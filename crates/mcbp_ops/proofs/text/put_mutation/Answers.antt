@@ -1,5 +1,5 @@
 use Rattle.std.proofs.Common.{◌≡◌, ◌++◌, [], List, ℕ, subst}
-use Rattle.ep_model.specs.declared.status.TheConstants.{SUCCESS}
+use Rattle.ep_model.specs.Statuses.{success}
 use Rattle.mcbp_frame.specs.Frames.{frame_data}
 use Rattle.mcbp_ops.specs.Text.{answer_text, mutation_extras}
 use Rattle.mcbp_ops.proofs.text.put_mutation.Goals as goal
@@ -8,5 +8,5 @@ pub returns-then-seqno_feature-clause-bytes : goal.returns-then-seqno_feature-cl
 returns-then-seqno_feature-clause-bytes c =
     let shown : c.stamp_of-stamp.result ≡ mutation_extras c.args.reply.now c.args.seqno_feature =
     rw c.if-seqno_feature.true c.stamp_of-stamp.ensures in
-    let Writes : List ℕ → Type 0 = λ extras. c.put.new.out.bytes ≡ c.args.out.now.bytes ++ answer_text (frame_data c.args.frame.now) SUCCESS c.args.reply.now.cas extras [] c.args.value.now in
+    let Writes : List ℕ → Type 0 = λ extras. c.put.new.out.bytes ≡ c.args.out.now.bytes ++ answer_text (frame_data c.args.frame.now) success c.args.reply.now.cas extras [] c.args.value.now in
     subst Writes shown c.put.ensures.bytes
