@@ -1,16 +1,23 @@
 #!/usr/bin/env bash
-# Times a session of Sets and Gets and one of calls of many kinds, beside cat on the same streams:
-# bench/session.sh [FRAMES]. It needs python3.
+# Times a session of Sets and Gets over 100, 1,000 and 10,000 keys and one of calls of many kinds, beside cat on the
+# same streams: bench/session.sh [FRAMES [OTHER]]. OTHER is the ep_server of another checkout, say of the version
+# before a change, which is timed in turn with this one. It needs python3.
 set -euo pipefail
 cd "$(dirname "$0")/.."
 
 # The first run builds the program where that is due.
-./ep_server session </dev/null >/dev/null
-exec python3 - "${1:-1000000}" <<'END'
+programs=("$PWD/ep_server" "${@:2}")
+for program in "${programs[@]}"; do
+    "$program" session </dev/null >/dev/null
+done
+exec python3 - "${1:-1000000}" "${programs[@]}" <<'END'
 import os, random, struct, sys, tempfile, time
 
-KEYS = [b"key%05d" % number for number in range(100)]
 VALUE_SIZE, RUNS = 100, 3
+
+
+def keys(count):
+    return [b"key%05d" % number for number in range(count)]
 
 
 def frame(opcode, key, extras, value):
@@ -55,18 +62,18 @@ MIXED = [
 ]
 
 
-def halves(frames, chance):
+def halves(frames, names, chance):
     """Half Sets and half Gets, in turn, of keys by chance."""
     makers = [store(0x01), get]
     for number in range(frames):
-        yield makers[number % 2](chance.choice(KEYS), chance)
+        yield makers[number % 2](chance.choice(names), chance)
 
 
-def mixed(frames, chance):
+def mixed(frames, names, chance):
     """Calls of many kinds by chance, of keys by chance."""
     makers = [make for make, share in MIXED for _ in range(share)]
     for _ in range(frames):
-        yield chance.choice(makers)(chance.choice(KEYS), chance)
+        yield chance.choice(makers)(chance.choice(names), chance)
 
 
 def run(words, stream):
@@ -84,27 +91,29 @@ def run(words, stream):
     return time.monotonic() - begin, used.ru_maxrss / 1024
 
 
-def best(words, stream):
-    """The shortest of the runs."""
-    return min(run(words, stream) for _ in range(RUNS))
+def best(commands, stream):
+    """The shortest run of each command on the stream. They take turns, so that none has the quieter machine."""
+    runs = [[run(words, stream) for words in commands] for _ in range(RUNS)]
+    return [min(each) for each in zip(*runs)]
 
 
-def measure(name, load, frames):
-    """Times a session on a load and cat on the same stream, and prints both."""
+def measure(name, load, frames, names):
+    """Times a session of each program on a load and cat on the same stream, and prints them."""
     with tempfile.NamedTemporaryFile() as file:
-        for bytes_of_frame in load(frames, random.Random(1)):
+        for bytes_of_frame in load(frames, names, random.Random(1)):
             file.write(bytes_of_frame)
         file.flush()
         size = os.path.getsize(file.name)
-        cat, _ = best(["cat"], file.name)
-        session, memory = best(["./ep_server", "session"], file.name)
-    print(f"{name}: {frames:,} frames, {size / 1e6:,.1f} MB, best of {RUNS} runs")
-    print(f"session     {session:8.3f} s  {frames / session:12,.0f} frames a second")
-    print(f"cat         {cat:8.3f} s  {session / cat:12,.1f} times as fast")
-    print(f"peak memory {memory:8.1f} MB, {memory * 1024 * 1024 / frames:,.0f} bytes a frame")
+        cat, *sessions = best([["cat"]] + [[program, "session"] for program in PROGRAMS], file.name)
+    print(f"{name} over {len(names):,} keys: {frames:,} frames, {size / 1e6:,.1f} MB, best of {RUNS} runs")
+    for program, (session, memory) in zip(PROGRAMS, sessions):
+        print(f"session     {session:8.3f} s  {frames / session:12,.0f} frames a second  {program}")
+        print(f"peak memory {memory:8.1f} MB, {memory * 1024 * 1024 / frames:,.0f} bytes a frame")
+    print(f"cat         {cat[0]:8.3f} s  {sessions[0][0] / cat[0]:12,.1f} times as fast as the first session")
 
 
-frames = int(sys.argv[1])
-measure("Sets and Gets", halves, frames)
-measure("calls of many kinds", mixed, frames)
+FRAMES, PROGRAMS = int(sys.argv[1]), sys.argv[2:]
+for count in [100, 1_000, 10_000]:
+    measure("Sets and Gets", halves, FRAMES, keys(count))
+measure("calls of many kinds", mixed, FRAMES, keys(100))
 END

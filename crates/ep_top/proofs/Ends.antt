@@ -1,7 +1,8 @@
 -- From how a session stopped to what it did, once its last answers were written.
-use Rattle.std.proofs.Common.{◌≡◌, ◌≢◌, ℕ, ◌+◌, ◌≤◌, Bool, true, false, ◌||◌, List, [], ◌∷◌, ◌++◌, refl, sym, ap, subst, ◌∙◌, inl, inr, Option, arith, append_assoc}
+use Rattle.std.proofs.Common.{◌≡◌, ◌≢◌, ℕ, ◌+◌, ◌≤◌, Bool, true, false, ◌||◌, List, [], ◌∷◌, ◌++◌, refl, sym, ap, subst, ◌∙◌, inl, inr, Option, arith, append_assoc, append-nil}
 use Rattle.std.specs.List.{AllByRecursion, concat, flat_map}
-use Rattle.ep_edge.specs.Edge.{Takes, Rose, IsEmptied}
+use Rattle.ep_model.specs.Counts.{RoseByOne}
+use Rattle.ep_edge.specs.Edge.{Takes, Appends, IsEmptied}
 use Rattle.ep_model.specs.declared.data.EventData.{EventData}
 use Rattle.ep_model.specs.declared.data.EventData.TheVariants.{Opened}
 use Rattle.ep_model.proofs.HistoryLemmas.{legal-bare}
@@ -14,12 +15,13 @@ use Rattle.ep_top.specs.declared.end.End.{End}
 use Rattle.ep_top.specs.declared.end.End.TheVariants as ends
 use Rattle.ep_top.specs.declared.front.Front.{Front}
 use Rattle.conn_core.specs.declared.hello.Features.{Features}
-use Rattle.ep_top.specs.Exchange.{Exchange, event_of}
+use Rattle.conn_core.specs.Exchange.{Exchange}
+use Rattle.ep_top.specs.Exchange.{event_of, texts_of}
 use Rattle.ep_top.specs.Front.{session_config, IsLegalHistory}
 use Rattle.ep_top.specs.Outside.{Outside}
 use Rattle.ep_top.specs.Stand.{Stand, bytes_of, Serves, Writes, is_quit_end}
-use Rattle.ep_top.specs.Session.{HasEnded, is_cut, Comes, IsNoted, IsSession, begin, Stops, Written, Lost, Broken, Finishes}
-use Rattle.ep_top.proofs.Stands.{serves_then, serves_writes, appends_nothing, rose_from}
+use Rattle.ep_top.specs.Session.{HasEnded, is_cut, Comes, IsNoted, IsSession, begin, no_features, Reads, Stops, Written, Lost, Broken, Finishes}
+use Rattle.ep_top.proofs.Stands.{serves_then, serves_then-served, serves_then-written, serves_writes, serves_writes-served, serves_writes-written, appends_nothing, rose_from}
 use Rattle.ep_top.proofs.Sessions.{takes_nothing}
 
 -- frames before a text that is divided
@@ -44,12 +46,13 @@ noted_from ends.Closed history served not e = e
 -- all of it, from what was served and written in the end, and from the division of what wasn't served
 session_from : (before now : Outside) (end : End) (history : List (ℕ × EventData)) (taken rest pending : List ℕ) (moment : ℕ → Option ℕ) (features : Features) (quit : Bool) (extra : ℕ) (unserved : List (List ℕ)) (left : List ℕ)
     → Takes before.left now.left taken
-    → Serves (begin before taken) (record { rest = rest; history = events_of 0 history; pending = pending; held = now.held; moment = moment; features = features; quit = quit })
+    → (p : Serves (begin before taken) (record { rest = rest; history = events_of 0 history; pending = pending; held = now.held; moment = moment; features = features; quit = quit }))
     → Divides rest unserved left → (is_cut end ≡ false → quit ≡ false → unserved ≡ [])
     → extra ≤ 1 → (is_cut end ≡ false → extra ≡ 0) → ((k : ℕ) → now.moment k ≡ moment (extra + k)) → (end ≢ ends.WriteFault → pending ≡ [])
     → IsLegalHistory history → end ≢ ends.BadWords → Comes before now taken left quit end
+    → Reads before now taken p.served p.written → (end ≢ ends.ReadFault → now.read_faults ≡ before.read_faults) → (end ≢ ends.WriteFault → now.write_faults ≡ before.write_faults)
     → IsSession before now end history
-session_from before now end history taken rest pending moment features quit extra unserved left takes p d all few exact asked whole legal not comes = record {
+session_from before now end history taken rest pending moment features quit extra unserved left takes p d all few exact asked whole legal not comes reads reading writing = record {
   taken = taken;
   frames = bytes_of p.served ++ unserved;
   rest = left;
@@ -76,6 +79,9 @@ session_from before now end history taken rest pending moment features quit extr
   texts = p.texts;
   whole = whole;
   comes = comes;
+  reads = reads;
+  reading = reading;
+  writing = writing;
 }
 
 nothing_is_partial : (rest : List ℕ) → rest ≡ [] → IsPartial rest
@@ -125,28 +131,47 @@ or_true_not false b e p q = cc
 -- the same session, whichever way it ended: what wasn't served is divided too
 session_of : (before now : Outside) (end : End) (history : List (ℕ × EventData)) (taken rest pending : List ℕ) (moment : ℕ → Option ℕ) (features : Features) (quit : Bool) (extra : ℕ)
     → Takes before.left now.left taken
-    → Serves (begin before taken) (record { rest = rest; history = events_of 0 history; pending = pending; held = now.held; moment = moment; features = features; quit = quit })
+    → (p : Serves (begin before taken) (record { rest = rest; history = events_of 0 history; pending = pending; held = now.held; moment = moment; features = features; quit = quit }))
     → extra ≤ 1 → (is_cut end ≡ false → extra ≡ 0) → ((k : ℕ) → now.moment k ≡ moment (extra + k)) → (end ≢ ends.WriteFault → pending ≡ [])
     → IsLegalHistory history → end ≢ ends.BadWords → Comes before now taken rest quit end
+    → Reads before now taken p.served p.written → (end ≢ ends.ReadFault → now.read_faults ≡ before.read_faults) → (end ≢ ends.WriteFault → now.write_faults ≡ before.write_faults)
     → IsSession before now end history
-session_of before now end history taken rest pending moment features quit extra takes p few exact asked whole legal not comes =
+session_of before now end history taken rest pending moment features quit extra takes p few exact asked whole legal not comes reads reading writing =
     let cut : (b : Bool) → is_cut end || quit ≡ b → IsSession before now end history =
     elim [
       | true ↦ λ is. let d = some_division rest in
-          session_from before now end history taken rest pending moment features quit extra d.0 d.1 takes p d.2 (λ other none. absurd (or_true_not (is_cut end) quit is other none)) few exact asked whole legal not (comes_anywhere end before now taken rest d.1 quit is comes)
+          session_from before now end history taken rest pending moment features quit extra d.0 d.1 takes p d.2 (λ other none. absurd (or_true_not (is_cut end) quit is other none)) few exact asked whole legal not (comes_anywhere end before now taken rest d.1 quit is comes) reads reading writing
       | false ↦ λ is. session_from before now end history taken rest pending moment features quit extra [] rest takes p
-          (divides-none rest (rest_over rest (rest_from end before now taken rest quit not (or_false_left (is_cut end) quit is) (or_false_right (is_cut end) quit is) comes))) (λ _ _. refl) few exact asked whole legal not comes
+          (divides-none rest (rest_over rest (rest_from end before now taken rest quit not (or_false_left (is_cut end) quit is) (or_false_right (is_cut end) quit is) comes))) (λ _ _. refl) few exact asked whole legal not comes reads reading writing
     ] in
     cut (is_cut end || quit) refl
 
-rose_later : (a b c : ℕ) → b ≤ c → Rose a b → Rose a c
-rose_later a b c le h = omega arith
+-- more was served and written since the last read
+reads_more : (before mid now : Outside) (taken : List ℕ) (served later served' : List Exchange) (written more written' : List ℕ) → now.left_before ≡ mid.left_before → served' ≡ served ++ later → written' ≡ written ++ more
+    → Reads before mid taken served written → Reads before now taken served' written'
+reads_more before mid now taken served later served' written more written' left s w (inl u) = inl (record { none = u.none; left_before = left ∙ u.left_before })
+reads_more before mid now taken served later served' written more written' left s w (inr l) = inr (record {
+  earlier = l.earlier;
+  last = l.last;
+  parts = l.parts;
+  takes = subst (λ (o : Option (List ℕ)). Takes before.left o l.earlier) (sym left) l.takes;
+  under = l.under;
+  first = l.first;
+  later = l.later ++ later;
+  rest = l.rest;
+  more = l.more ++ more;
+  order = s ∙ ap (λ x. x ++ later) l.order ∙ append_assoc l.first l.later later;
+  divided = l.divided;
+  partial = l.partial;
+  quits = l.quits;
+  texts = w ∙ ap (λ x. x ++ more) l.texts ∙ append_assoc (texts_of no_features l.first) l.more more;
+})
 
 has_ended_later : (mid now : Outside) (taken : List ℕ) → now.left ≡ mid.left → now.has_ended ≡ mid.has_ended → HasEnded mid taken → HasEnded now taken
 has_ended_later mid now taken left ended h = record { ended = ended ∙ h.ended; emptied = subst (λ (o : Option (List ℕ)). IsEmptied o) (sym left) h.emptied; under = h.under }
 
 -- only the sink changed since
-comes_later : (end : End) (before mid now : Outside) (taken rest : List ℕ) (quit : Bool) → now.left ≡ mid.left → now.has_ended ≡ mid.has_ended → now.read_faults ≡ mid.read_faults → mid.write_faults ≤ now.write_faults
+comes_later : (end : End) (before mid now : Outside) (taken rest : List ℕ) (quit : Bool) → now.left ≡ mid.left → now.has_ended ≡ mid.has_ended → now.read_faults ≡ mid.read_faults → now.write_faults ≡ mid.write_faults
     → Comes before mid taken rest quit end → Comes before now taken rest quit end
 comes_later ends.BadWords before mid now taken rest quit left ended read write h = h
 comes_later ends.NoMemory before mid now taken rest quit left ended read write h = h
@@ -154,8 +179,8 @@ comes_later (ends.BadMagic at) before mid now taken rest quit left ended read wr
 comes_later (ends.TooLong at) before mid now taken rest quit left ended read write h = h
 comes_later (ends.Torn at) before mid now taken rest quit left ended read write h = (has_ended_later mid now taken left ended h.0, h.1, h.2, h.3, h.4)
 comes_later ends.Limit before mid now taken rest quit left ended read write h = (record { partial = h.0.partial; going = ended ∙ h.0.going }, h.1, h.2)
-comes_later ends.ReadFault before mid now taken rest quit left ended read write h = (record { partial = h.0.partial; going = ended ∙ h.0.going }, h.1, subst (λ (n : ℕ). Rose before.read_faults n) (sym read) h.2, h.3)
-comes_later ends.WriteFault before mid now taken rest quit left ended read write h = rose_later _ _ _ write h
+comes_later ends.ReadFault before mid now taken rest quit left ended read write h = (record { partial = h.0.partial; going = ended ∙ h.0.going }, h.1, subst (λ (n : ℕ). RoseByOne before.read_faults n) (sym read) h.2, h.3)
+comes_later ends.WriteFault before mid now taken rest quit left ended read write h = write ∙ h
 comes_later ends.Quit before mid now taken rest quit left ended read write h = h
 comes_later ends.Closed before mid now taken rest quit left ended read write h = (has_ended_later mid now taken left ended h.0, h.1, h.2)
 
@@ -164,10 +189,10 @@ exact_from : (end : End) (extra : ℕ) → (end ≢ ends.NoMemory → extra ≡ 
 exact_from end extra exact cut = exact (λ is. absurd (let e = ap is_cut is in cc))
 
 -- a session that stopped, and then wrote its last answers
-session_written : (before mid now : Outside) (end final : End) (front : Front) (s : Stops before mid end front) (w : Written end final front.conn.out.bytes mid.held now.held)
-    → now.left ≡ mid.left → now.has_ended ≡ mid.has_ended → now.read_faults ≡ mid.read_faults → mid.write_faults ≤ now.write_faults → ((k : ℕ) → now.moment k ≡ mid.moment k)
+session_written : (before mid now : Outside) (end final : End) (front : Front) (s : Stops before mid end front) (w : Written end final front.conn.out.bytes mid.held now.held mid.write_faults now.write_faults)
+    → now.left ≡ mid.left → now.left_before ≡ mid.left_before → now.has_ended ≡ mid.has_ended → now.read_faults ≡ mid.read_faults → ((k : ℕ) → now.moment k ≡ mid.moment k)
     → IsSession before now final front.history
-session_written before mid now end final front s w left ended read write moment =
+session_written before mid now end final front s w left earlier ended read moment =
     let here : Stand = record { rest = s.rest; history = events_of 0 front.history; pending = s.pending; held = mid.held; moment = s.moment; features = front.conn.features; quit = is_quit_end end } in
     let pending = subst (λ (l : List ℕ). Writes l [] mid.held now.held) (sym (s.kept w.able)) w.writes in
     subst (λ (e : End). IsSession before now e front.history) (sym w.same)
@@ -175,13 +200,17 @@ session_written before mid now end final front s w left ended read write moment 
     (subst (λ (o : Option (List ℕ)). Takes before.left o s.taken) (sym left) s.takes)
     (serves_then _ here _ s.serves (serves_writes here [] now.held pending))
     s.few (exact_from end s.extra s.exact) (λ k. moment k ∙ s.asked k) (λ _. refl) s.legal s.served
-    (comes_later end before mid now s.taken s.rest (is_quit_end end) left ended read write s.comes))
+    (comes_later end before mid now s.taken s.rest (is_quit_end end) left ended read w.quiet s.comes)
+    (reads_more before mid now s.taken s.serves.served [] _ s.serves.written pending.written _ earlier
+    (serves_then-served _ here _ s.serves _ ∙ ap (λ l. s.serves.served ++ l) (serves_writes-served here [] now.held pending))
+    (serves_then-written _ here _ s.serves _ ∙ ap (λ l. s.serves.written ++ l) (serves_writes-written here [] now.held pending)) s.reads)
+    (λ not. read ∙ s.reading not) (λ able. w.quiet ∙ s.writing able))
 
 -- a session that stopped, and then lost some of its last answers
-session_lost : (before mid now : Outside) (end final : End) (front : Front) (s : Stops before mid end front) (w : Lost end final front.conn.out.bytes mid.held now.held (Rose mid.write_faults now.write_faults))
-    → now.left ≡ mid.left → before.write_faults ≤ mid.write_faults → ((k : ℕ) → now.moment k ≡ mid.moment k)
+session_lost : (before mid now : Outside) (end final : End) (front : Front) (s : Stops before mid end front) (w : Lost end final front.conn.out.bytes mid.held now.held mid.write_faults now.write_faults)
+    → now.left ≡ mid.left → now.left_before ≡ mid.left_before → now.read_faults ≡ mid.read_faults → ((k : ℕ) → now.moment k ≡ mid.moment k)
     → IsSession before now final front.history
-session_lost before mid now end final front s w left older moment =
+session_lost before mid now end final front s w left earlier read moment =
     let here : Stand = record { rest = s.rest; history = events_of 0 front.history; pending = s.pending; held = mid.held; moment = s.moment; features = front.conn.features; quit = is_quit_end end } in
     let pending = subst (λ (l : List ℕ). Writes l w.lost mid.held now.held) (sym (s.kept w.able)) w.writes in
     subst (λ (e : End). IsSession before now e front.history) (sym w.fault)
@@ -189,32 +218,50 @@ session_lost before mid now end final front s w left older moment =
     (subst (λ (o : Option (List ℕ)). Takes before.left o s.taken) (sym left) s.takes)
     (serves_then _ here _ s.serves (serves_writes here w.lost now.held pending))
     s.few (λ cut. cc) (λ k. moment k ∙ s.asked k) (λ not. absurd (not refl)) s.legal (λ e. cc)
-    (rose_from _ _ _ older w.why))
+    (rose_from _ _ _ (s.writing w.able) w.why)
+    (reads_more before mid now s.taken s.serves.served [] _ s.serves.written pending.written _ earlier
+    (serves_then-served _ here _ s.serves _ ∙ ap (λ l. s.serves.served ++ l) (serves_writes-served here w.lost now.held pending))
+    (serves_then-written _ here _ s.serves _ ∙ ap (λ l. s.serves.written ++ l) (serves_writes-written here w.lost now.held pending)) s.reads)
+    (λ _. read ∙ s.reading (λ is. w.some (s.flushed is))) (λ not. absurd (not refl)))
 
 -- a session that a fault of writing stopped
-session_broken : (before mid now : Outside) (end final : End) (front : Front) (s : Stops before mid end front) (w : Broken end final mid.held now.held)
-    → now.left ≡ mid.left → now.has_ended ≡ mid.has_ended → now.read_faults ≡ mid.read_faults → mid.write_faults ≤ now.write_faults → ((k : ℕ) → now.moment k ≡ mid.moment k)
+session_broken : (before mid now : Outside) (end final : End) (front : Front) (s : Stops before mid end front) (w : Broken end final mid.held now.held mid.write_faults now.write_faults)
+    → now.left ≡ mid.left → now.left_before ≡ mid.left_before → now.has_ended ≡ mid.has_ended → now.read_faults ≡ mid.read_faults → ((k : ℕ) → now.moment k ≡ mid.moment k)
     → IsSession before now final front.history
-session_broken before mid now end final front s w left ended read write moment =
+session_broken before mid now end final front s w left earlier ended read moment =
     subst (λ (e : End). IsSession before now e front.history) (w.before ∙ sym w.fault)
     (session_of before now end front.history s.taken s.rest s.pending s.moment front.conn.features (is_quit_end end) s.extra
     (subst (λ (o : Option (List ℕ)). Takes before.left o s.taken) (sym left) s.takes)
-    (subst (λ (h : Option (List ℕ)). Serves (begin before s.taken) (record { rest = s.rest; history = events_of 0 front.history; pending = s.pending; held = h; moment = s.moment; features = front.conn.features; quit = is_quit_end end })) (sym w.same) s.serves)
+    (record {
+      served = s.serves.served;
+      written = s.serves.written;
+      rest = s.serves.rest;
+      each = s.serves.each;
+      noted = s.serves.noted;
+      texts = s.serves.texts;
+      features = s.serves.features;
+      quits = s.serves.quits;
+      wrote = subst (λ (h : Option (List ℕ)). Appends before.held h s.serves.written) (sym w.same) s.serves.wrote;
+      moments = s.serves.moments;
+      asked = s.serves.asked;
+    })
     s.few (exact_from end s.extra s.exact) (λ k. moment k ∙ s.asked k) (λ not. absurd (not w.before)) s.legal s.served
-    (comes_later end before mid now s.taken s.rest (is_quit_end end) left ended read write s.comes))
+    (comes_later end before mid now s.taken s.rest (is_quit_end end) left ended read w.quiet s.comes)
+    (reads_more before mid now s.taken s.serves.served [] _ s.serves.written [] _ earlier (sym (append-nil s.serves.served)) (sym (append-nil s.serves.written)) s.reads)
+    (λ not. read ∙ s.reading not) (λ able. w.quiet ∙ s.writing able))
 
-pub session_finished : (before mid now : Outside) (end final : End) (front : Front) → Stops before mid end front → Finishes end final front.conn.out.bytes mid.held now.held (Rose mid.write_faults now.write_faults)
-    → now.left ≡ mid.left → now.has_ended ≡ mid.has_ended → now.read_faults ≡ mid.read_faults → before.write_faults ≤ mid.write_faults → mid.write_faults ≤ now.write_faults → ((k : ℕ) → now.moment k ≡ mid.moment k)
+pub session_finished : (before mid now : Outside) (end final : End) (front : Front) → Stops before mid end front → Finishes end final front.conn.out.bytes mid.held now.held mid.write_faults now.write_faults
+    → now.left ≡ mid.left → now.left_before ≡ mid.left_before → now.has_ended ≡ mid.has_ended → now.read_faults ≡ mid.read_faults → ((k : ℕ) → now.moment k ≡ mid.moment k)
     → IsSession before now final front.history
-session_finished before mid now end final front s (inl w) left ended read older write moment = session_written before mid now end final front s w left ended read write moment
-session_finished before mid now end final front s (inr (inl w)) left ended read older write moment = session_lost before mid now end final front s w left older moment
-session_finished before mid now end final front s (inr (inr w)) left ended read older write moment = session_broken before mid now end final front s w left ended read write moment
+session_finished before mid now end final front s (inl w) left earlier ended read moment = session_written before mid now end final front s w left earlier ended read moment
+session_finished before mid now end final front s (inr (inl w)) left earlier ended read moment = session_lost before mid now end final front s w left earlier read moment
+session_finished before mid now end final front s (inr (inr w)) left earlier ended read moment = session_broken before mid now end final front s w left earlier ended read moment
 
 -- no session is finished as bad words
-pub finished_served : (end final : End) (pending : List ℕ) (old new : Option (List ℕ)) (rose : Type 0) → end ≢ ends.BadWords → Finishes end final pending old new rose → final ≢ ends.BadWords
-finished_served end final pending old new rose not (inl w) e = not (sym w.same ∙ e)
-finished_served end final pending old new rose not (inr (inl w)) e = let f = w.fault in cc
-finished_served end final pending old new rose not (inr (inr w)) e = let f = w.fault in cc
+pub finished_served : (end final : End) (pending : List ℕ) (old new : Option (List ℕ)) (f0 f1 : ℕ) → end ≢ ends.BadWords → Finishes end final pending old new f0 f1 → final ≢ ends.BadWords
+finished_served end final pending old new f0 f1 not (inl w) e = not (sym w.same ∙ e)
+finished_served end final pending old new f0 f1 not (inr (inl w)) e = let f = w.fault in cc
+finished_served end final pending old new f0 f1 not (inr (inr w)) e = let f = w.fault in cc
 
 -- a session that didn't begin took, served and wrote nothing
 pub session_none : (before : Outside) (end : End) → IsNoted end [] [] → Comes before before [] [] false end → IsSession before before end []
@@ -245,6 +292,9 @@ session_none before end noted comes = record {
   texts = refl;
   whole = λ _. refl;
   comes = comes;
+  reads = inl (record { none = refl; left_before = refl });
+  reading = λ _. refl;
+  writing = λ _. refl;
 }
 
 pub session_unopened : (before : Outside) (end : End) (history : List (ℕ × EventData)) → history ≡ [] → IsNoted end [] [] → Comes before before [] [] false end → IsSession before before end history

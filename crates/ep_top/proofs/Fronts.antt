@@ -11,6 +11,8 @@ use Rattle.ep_model.specs.World.{World}
 use Rattle.ep_model.specs.Answer.{answer, apply, Effect, Nothing, Puts, Sets}
 use Rattle.ep_model.specs.Front.{empty_start, begun, world_of}
 use Rattle.ep_model.specs.Legal.{May, IsLegal}
+use Rattle.ep_model.proofs.EffectLemmas.{call_told}
+use Rattle.hold_stage.proofs.Views.{frame_after}
 use Rattle.ep_model.proofs.HistoryLemmas.{after-append, legal-push, legal-bare}
 use Rattle.vb_world.specs.History.{events_of, under}
 use Rattle.vb_world.proofs.Histories.{events_of-push, under-append}
@@ -20,21 +22,26 @@ use Rattle.conn_core.specs.declared.act.ActData.{ActData}
 use Rattle.conn_core.specs.declared.act.ActData.TheVariants as acts
 use Rattle.conn_core.specs.declared.conn.Conn.{Conn}
 use Rattle.conn_core.specs.declared.hello.Features.{Features}
-use Rattle.conn_core.specs.Conns.{IsNew}
+use Rattle.conn_core.specs.Conns.{IsNew, out_room, value_room}
 use Rattle.conn_core.specs.Acts.{own_text, features_after}
 use Rattle.conn_core.proofs.ActLemmas.{engine_features}
 use Rattle.ep_top.specs.declared.front.Front.{Front}
-use Rattle.conn_core.specs.declared.conn.TheConstants.{OUT_ROOM, VALUE_ROOM}
-use Rattle.ep_top.specs.declared.front.TheConstants.{VBUCKETS}
 use Rattle.ep_top.specs.Calls.{Calls}
-use Rattle.ep_top.specs.Exchange.{act_in, act_event, act_text, is_quit}
+use Rattle.conn_core.specs.Exchange.{act_event, act_text, is_quit}
+use Rattle.ep_top.specs.Exchange.{vbuckets, act_in}
 use Rattle.ep_top.specs.Front.{session_config, session_front, IsLegalHistory, IsSound, Answered}
+
+-- a session's documents are known
+is_told : (events : List EventData) → (world_of (session_front events)).told ≡ true
+is_told events = (frame_after (begun (session_front [])) events).told
 
 -- an answered call stands at the end of a legal history, whose world is then the one that the call leaves
 world_after_call : (world : World) (events : List EventData) (caller now : ℕ) (call : CallData) (reply : Reply) (value : List ℕ)
     → world ≡ world_of (session_front events) → apply world (answer world call now).effect ≡ world_of (session_front (events ++ Called caller call now reply value ∷ []))
 world_after_call world events caller now call reply value e =
-    ap (λ (w : World). apply w (answer w call now).effect) e ∙ sym (after-append (begun (session_front [])) events (Called caller call now reply value ∷ []))
+    ap (λ (w : World). apply w (answer w call now).effect) e
+    ∙ ap (λ (effect : Effect). apply (world_of (session_front events)) effect) (sym (call_told (world_of (session_front events)) call now reply (is_told events)))
+    ∙ sym (after-append (begun (session_front [])) events (Called caller call now reply value ∷ []))
 
 may_call : (world : World) (events : List EventData) (caller now : ℕ) (call : CallData) (reply : Reply) (value : List ℕ)
     → world ≡ world_of (session_front events) → world.opened ≡ true → reply ≡ (answer world call now).reply → value ≡ (answer world call now).value
@@ -42,8 +49,8 @@ may_call : (world : World) (events : List EventData) (caller now : ℕ) (call : 
 unfolding May
 may_call world events caller now call reply value e opened r v = record {
   opened = sym (ap (λ (w : World). w.opened) e) ∙ opened;
-  reply_is = r ∙ ap (λ (w : World). (answer w call now).reply) e;
-  value_is = v ∙ ap (λ (w : World). (answer w call now).value) e;
+  reply_is = λ _. r ∙ ap (λ (w : World). (answer w call now).reply) e;
+  value_is = λ _. v ∙ ap (λ (w : World). (answer w call now).value) e;
 }
 
 -- one event more of vBucket 0
@@ -86,7 +93,7 @@ sound_after_call old new sorted frame call now s room value c = record {
 -- a call was answered
 pub answered_call : (f : FrameData) (m next : ℕ → Option ℕ) (old new : Front) (sorted : Conn) (call : CallData) (now : ℕ)
     → IfSome (m 0) (λ t. now ≡ t) → ((k : ℕ) → next k ≡ m (1 + k)) → acts.Engine call ≡ act_in f
-    → sorted.out.bytes ≡ old.conn.out.bytes ++ own_text VBUCKETS f → sorted.features ≡ features_after old.conn.features f
+    → sorted.out.bytes ≡ old.conn.out.bytes ++ own_text vbuckets f → sorted.features ≡ features_after old.conn.features f
     → Calls f call now old.plain new.plain old.history new.history sorted new.conn → Answered f m next false old new
 answered_call f m next old new sorted call now told asked act text features c = record {
   now = now;
@@ -99,9 +106,9 @@ answered_call f m next old new sorted call now told asked act text features c = 
       ∙ ap (λ (a : ActData). events_of 0 old.history ++ act_event a now c.reply c.value) act;
   text =
       c.text ∙ ap (λ l. l ++ reply_text f c.reply c.value sorted.features.seqno) text
-      ∙ append_assoc old.conn.out.bytes (own_text VBUCKETS f) (reply_text f c.reply c.value sorted.features.seqno)
-      ∙ ap (λ l. old.conn.out.bytes ++ (own_text VBUCKETS f ++ l))
-      (ap (λ (fs : Features). reply_text f c.reply c.value fs.seqno) (features ∙ engine_features VBUCKETS f old.conn.features call act)
+      ∙ append_assoc old.conn.out.bytes (own_text vbuckets f) (reply_text f c.reply c.value sorted.features.seqno)
+      ∙ ap (λ l. old.conn.out.bytes ++ (own_text vbuckets f ++ l))
+      (ap (λ (fs : Features). reply_text f c.reply c.value fs.seqno) (features ∙ engine_features vbuckets f old.conn.features call act)
       ∙ ap (λ (a : ActData). act_text old.conn.features f a c.reply c.value) act);
   features = c.features ∙ features;
   quits = ap (λ (a : ActData). is_quit a) (sym act);
@@ -114,7 +121,7 @@ no_reply = record { status = 0; cas = 0; flags = 0; uuid = 0; seqno = 0 }
 pub answered_frame : (f : FrameData) (m next : ℕ → Option ℕ) (old new : Front) (sorted : Conn) (act : ActData) (text : List ℕ) (quit : Bool) (now : ℕ)
     → IfSome (m 0) (λ t. now ≡ t) → ((k : ℕ) → next k ≡ m (1 + k)) → act ≡ act_in f
     → ((reply : Reply) → act_event act now reply [] ≡ []) → ((reply : Reply) → act_text old.conn.features f act reply [] ≡ text) → is_quit act ≡ quit
-    → sorted.out.bytes ≡ old.conn.out.bytes ++ own_text VBUCKETS f → sorted.features ≡ features_after old.conn.features f
+    → sorted.out.bytes ≡ old.conn.out.bytes ++ own_text vbuckets f → sorted.features ≡ features_after old.conn.features f
     → new.history ≡ old.history → new.conn.out.bytes ≡ sorted.out.bytes ++ text → new.conn.features ≡ sorted.features → Answered f m next quit old new
 answered_frame f m next old new sorted act text quit now told asked is event shown quits own features history bytes kept = record {
   now = now;
@@ -126,8 +133,8 @@ answered_frame f m next old new sorted act text quit now told asked is event sho
       ap (events_of 0) history ∙ sym (append-nil (events_of 0 old.history)) ∙ ap (λ l. events_of 0 old.history ++ l) (sym (event no_reply))
       ∙ ap (λ (a : ActData). events_of 0 old.history ++ act_event a now no_reply []) is;
   text =
-      bytes ∙ ap (λ l. l ++ text) own ∙ append_assoc old.conn.out.bytes (own_text VBUCKETS f) text
-      ∙ ap (λ l. old.conn.out.bytes ++ (own_text VBUCKETS f ++ l)) (sym (shown no_reply) ∙ ap (λ (a : ActData). act_text old.conn.features f a no_reply []) is);
+      bytes ∙ ap (λ l. l ++ text) own ∙ append_assoc old.conn.out.bytes (own_text vbuckets f) text
+      ∙ ap (λ l. old.conn.out.bytes ++ (own_text vbuckets f ++ l)) (sym (shown no_reply) ∙ ap (λ (a : ActData). act_text old.conn.features f a no_reply []) is);
   features = kept ∙ features;
   quits = ap (λ (a : ActData). is_quit a) (sym is) ∙ quits;
 }
@@ -137,7 +144,7 @@ empty_room o none = ap (λ (l : List ℕ). o.spare + length l) none ∙ add-zero
 
 -- a front that has opened and did nothing else
 pub sound_fresh : (f : Front) → f.history ≡ [] ++ (0, Opened) ∷ [] → f.plain ≡ record (begun (session_front [])) { opened = true }
-    → IsNew f.conn → f.conn.out.spare ≡ OUT_ROOM → f.conn.value.spare ≡ VALUE_ROOM → IsSound f
+    → IsNew f.conn → f.conn.out.spare ≡ out_room → f.conn.value.spare ≡ value_room → IsSound f
 unfolding May
 sound_fresh f noted plain new out value = record {
   world = plain ∙ ap (λ (l : List EventData). world_of (session_front l)) (sym (events_after [] f.history Opened noted));

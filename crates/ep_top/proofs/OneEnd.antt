@@ -3,8 +3,8 @@ use Rattle.std.proofs.Common.{◌≡◌, ℕ, ◌+◌, ◌<◌, Bool, true, fals
 use Rattle.mcbp_frame.specs.Division.{IsPartial}
 use Rattle.mcbp_frame.proofs.DivisionLemmas.{partial_or_bad_magic, partial_or_too_long, bad_magic_or_too_long}
 use Rattle.ep_top.specs.declared.end.End.TheVariants as ends
-use Rattle.ep_top.specs.declared.session.TheConstants.{MAX_TAKEN}
 use Rattle.ep_top.specs.Laws.{OneEnd}
+use Rattle.ep_top.specs.Session.{most_taken}
 
 none_is_partial : (rest : List ℕ) → rest ≡ [] → IsPartial rest
 none_is_partial rest e = subst (λ (l : List ℕ). IsPartial l) (sym e) (record { magic = λ h. absurd (omega arith); body = λ h. absurd (omega arith); short = λ h. absurd (omega arith) })
@@ -16,7 +16,7 @@ no_quit : (quit : Bool) → quit ≡ false → quit ≡ true → ⊥
 no_quit quit p q = cc
 
 -- fewer bytes than the limit are not as many
-not_full : (n : ℕ) → n < MAX_TAKEN → n ≡ MAX_TAKEN → ⊥
+not_full : (n : ℕ) → n < most_taken → n ≡ most_taken → ⊥
 not_full n p q = absurd (omega (arith, q))
 
 same_place : (a b rest taken : ℕ) → a + rest ≡ taken → b + rest ≡ taken → a ≡ b

@@ -1,7 +1,8 @@
 -- A session goes on piece by piece, and how it stops.
-use Rattle.std.proofs.Common.{◌≡◌, ◌≢◌, ℕ, ◌+◌, ◌≤◌, ◌<◌, Bool, true, false, ◌||◌, List, [], ◌∷◌, ◌++◌, length, refl, sym, ap, subst, ◌∙◌, Option, None, Some, arith, append_assoc, append-nil, zero-add, length-append}
+use Rattle.std.proofs.Common.{◌≡◌, ◌≢◌, ℕ, ◌+◌, ◌<◌, Bool, true, false, ◌||◌, List, [], ◌∷◌, ◌++◌, length, refl, sym, ap, subst, ◌∙◌, inl, inr, Option, None, Some, arith, append_assoc, append-nil, zero-add, length-append}
 use Rattle.std.specs.List.{concat}
-use Rattle.ep_edge.specs.Edge.{Takes, Rose, IsEmptied}
+use Rattle.ep_model.specs.Counts.{RoseByOne}
+use Rattle.ep_edge.specs.Edge.{Takes, Appends, IsEmptied}
 use Rattle.ep_edge.specs.declared.source.Got.{Got}
 use Rattle.ep_edge.specs.declared.source.Got.TheVariants as got
 use Rattle.mcbp_frame.specs.declared.feeder.FeederData.{FeederData}
@@ -11,13 +12,14 @@ use Rattle.vb_world.specs.History.{events_of}
 use Rattle.ep_top.specs.declared.end.End.{End}
 use Rattle.ep_top.specs.declared.end.End.TheVariants as ends
 use Rattle.ep_top.specs.declared.front.Front.{Front}
-use Rattle.ep_top.specs.declared.session.TheConstants.{MAX_TAKEN}
 use Rattle.ep_top.specs.Front.{IsLegalHistory, IsSound, IsFresh}
+use Rattle.conn_core.specs.Exchange.{Exchange}
+use Rattle.ep_top.specs.Exchange.{StopsAtQuit}
 use Rattle.ep_top.specs.Outside.{Outside}
 use Rattle.ep_top.specs.Piece.{Feeds}
-use Rattle.ep_top.specs.Stand.{Stand, stand, bytes_of, Serves, Breaks, HasStopped, is_quit_end}
-use Rattle.ep_top.specs.Session.{HasEnded, Comes, begin, Progress, Stops, EndsAt}
-use Rattle.ep_top.proofs.Stands.{serves_then, rose_from, appends_nothing}
+use Rattle.ep_top.specs.Stand.{stand, bytes_of, Serves, Breaks, HasStopped, is_quit_end}
+use Rattle.ep_top.specs.Session.{most_taken, HasEnded, Comes, begin, Reads, LastRead, Progress, Stops, EndsAt}
+use Rattle.ep_top.proofs.Stands.{serves_then, serves_then-served, serves_then-written, rose_from, appends_nothing}
 
 pub or_false : (b : Bool) → (b || false) ≡ b
 or_false true = refl
@@ -41,35 +43,52 @@ no_bytes : (l : List ℕ) → length l ≡ 0 → l ≡ []
 no_bytes [] e = refl
 no_bytes (x ∷ l) e = absurd (omega arith)
 
--- more bytes came behind those that were taken
-serves_fed : (before : Outside) (taken piece : List ℕ) (b : Stand) → Serves (begin before taken) b
-    → Serves (begin before (taken ++ piece)) (record b { rest = b.rest ++ piece })
-serves_fed before taken piece b p = record {
-  served = p.served;
-  written = p.written;
-  rest = ap (λ l. l ++ piece) p.rest ∙ append_assoc (concat (bytes_of p.served)) b.rest piece;
-  each = p.each;
-  noted = p.noted;
-  texts = p.texts;
-  features = p.features;
-  quits = p.quits;
-  wrote = p.wrote;
-  moments = p.moments;
-  asked = p.asked;
+-- a session that was at the end of all whole frames got a piece, which is `fed` with what it held
+abbrev serves_piece : (before mid now : Outside) (count : ℕ) (got : Got) (rest fed : List ℕ) (front : Front) (p : Progress before mid count rest front) (f : Feeds got rest fed mid.left now.left)
+    → Serves (begin before (p.taken ++ f.piece)) (stand fed front mid.held mid.moment false)
+serves_piece before mid now count got rest fed front p f = record {
+  served = p.serves.served;
+  written = p.serves.written;
+  rest =
+      ap (λ l. l ++ f.piece) p.serves.rest ∙ append_assoc (concat (bytes_of p.serves.served)) rest f.piece
+      ∙ ap (λ l. concat (bytes_of p.serves.served) ++ l) (sym f.fed);
+  each = p.serves.each;
+  noted = p.serves.noted;
+  texts = p.serves.texts;
+  features = p.serves.features;
+  quits = p.serves.quits;
+  wrote = p.serves.wrote;
+  moments = p.serves.moments;
+  asked = p.serves.asked;
 }
 
--- a session that was at the end of all whole frames got a piece, which is `fed` with what it held
-serves_piece : (before mid now : Outside) (count : ℕ) (got : Got) (rest fed : List ℕ) (front : Front) (p : Progress before mid count rest front) (f : Feeds got rest fed mid.left now.left)
-    → Serves (begin before (p.taken ++ f.piece)) (stand fed front mid.held mid.moment false)
-serves_piece before mid now count got rest fed front p f =
-    subst (λ (l : List ℕ). Serves (begin before (p.taken ++ f.piece)) (stand l front mid.held mid.moment false)) (sym f.fed) (serves_fed before p.taken f.piece _ p.serves)
+-- as the last read began, all that was taken by then was served and answered
+last_read : (before mid now : Outside) (count : ℕ) (rest : List ℕ) (front : Front) (p : Progress before mid count rest front) (taken piece : List ℕ) (served later : List Exchange) (written more : List ℕ)
+    → taken ≡ p.taken ++ piece → served ≡ p.serves.served ++ later → written ≡ p.serves.written ++ more → now.left_before ≡ mid.left → count < most_taken
+    → LastRead before now taken served written
+last_read before mid now count rest front p taken piece served later written more parts order wrote left under = record {
+  earlier = p.taken;
+  last = piece;
+  parts = parts;
+  takes = subst (λ (o : Option (List ℕ)). Takes before.left o p.taken) (sym left) p.takes;
+  under = omega (arith, p.counted);
+  first = p.serves.served;
+  later = later;
+  rest = rest;
+  more = more;
+  order = order;
+  divided = p.serves.rest;
+  partial = p.partial;
+  quits = p.serves.quits;
+  texts = wrote ∙ ap (λ l. l ++ more) (sym (append-nil p.serves.written) ∙ ap (λ l. p.serves.written ++ l) (sym p.written) ∙ p.serves.texts);
+}
 
 pub progress_more : (before mid now : Outside) (count n : ℕ) (rest fed rest' : List ℕ) (front front' : Front)
     → Progress before mid count rest front → Feeds (got.Bytes n) rest fed mid.left now.left
     → Serves (stand fed front mid.held mid.moment false) (stand rest' front' now.held now.moment false)
-    → IsSound front' → IsPartial rest' → front'.conn.out.bytes ≡ [] → now.has_ended ≡ mid.has_ended → mid.read_faults ≤ now.read_faults → mid.write_faults ≤ now.write_faults
+    → IsSound front' → IsPartial rest' → front'.conn.out.bytes ≡ [] → now.has_ended ≡ mid.has_ended → now.read_faults ≡ mid.read_faults → now.write_faults ≡ mid.write_faults → now.left_before ≡ mid.left → count < most_taken
     → Progress before now (count + n) rest' front'
-progress_more before mid now count n rest fed rest' front front' p f s sound partial written going read write = record {
+progress_more before mid now count n rest fed rest' front front' p f s sound partial written going read write left under = record {
   taken = p.taken ++ f.piece;
   counted = omega (arith, length-append p.taken f.piece, p.counted, f.count);
   takes = takes_then _ _ _ _ _ p.takes f.takes;
@@ -78,12 +97,13 @@ progress_more before mid now count n rest fed rest' front front' p f s sound par
   partial = partial;
   written = written;
   going = going ∙ p.going;
-  read_faults = omega (arith, p.read_faults);
-  write_faults = omega (arith, p.write_faults);
+  reads = inr (last_read before mid now count rest front p _ f.piece _ s.served _ s.written refl (serves_then-served _ _ _ _ s) (serves_then-written _ _ _ _ s) left under);
+  read_faults = read ∙ p.read_faults;
+  write_faults = write ∙ p.write_faults;
 }
 
 -- why serving stopped is how the session ends
-comes_from : (end : End) (before now : Outside) (taken rest kept : List ℕ) (at : ℕ) (rose : Type 0) → (rose → Rose before.write_faults now.write_faults) → at + length kept ≡ length taken
+comes_from : (end : End) (before now : Outside) (taken rest kept : List ℕ) (at : ℕ) (rose : Type 0) → (rose → RoseByOne before.write_faults now.write_faults) → at + length kept ≡ length taken
     → HasStopped end rest kept at rose → Comes before now taken rest (is_quit_end end) end
 comes_from ends.BadWords before now taken rest kept at rose f place h = absurd h
 comes_from ends.NoMemory before now taken rest kept at rose f place h = tt
@@ -99,12 +119,15 @@ comes_from ends.Closed before now taken rest kept at rose f place h = absurd h
 not_bad_words : (end : End) (rest kept : List ℕ) (at : ℕ) (rose : Type 0) → HasStopped end rest kept at rose → end ≢ ends.BadWords
 not_bad_words end rest kept at rose h e = subst (λ (x : End). HasStopped x rest kept at rose) e h
 
+not_read_fault : (end : End) (rest kept : List ℕ) (at : ℕ) (rose : Type 0) → HasStopped end rest kept at rose → end ≢ ends.ReadFault
+not_read_fault end rest kept at rose h e = subst (λ (x : End). HasStopped x rest kept at rose) e h
+
 pub stops_in_frames : (end : End) (before mid now : Outside) (count n at : ℕ) (rest fed rest' : List ℕ) (front front' : Front)
     → Progress before mid count rest front → Feeds (got.Bytes n) rest fed mid.left now.left
-    → Breaks end (stand fed front mid.held mid.moment false) (stand rest' front' now.held now.moment false) at (Rose mid.write_faults now.write_faults)
-    → IsLegalHistory front'.history → at + length rest' ≡ count + n
+    → Breaks end (stand fed front mid.held mid.moment false) (stand rest' front' now.held now.moment false) at mid.write_faults now.write_faults
+    → IsLegalHistory front'.history → at + length rest' ≡ count + n → now.left_before ≡ mid.left → count < most_taken → now.read_faults ≡ mid.read_faults
     → Stops before now end front'
-stops_in_frames end before mid now count n at rest fed rest' front front' p f b legal place =
+stops_in_frames end before mid now count n at rest fed rest' front front' p f b legal place left under read =
     let long : length (p.taken ++ f.piece) ≡ count + n = omega (arith, length-append p.taken f.piece, p.counted, f.count) in
     record {
       taken = p.taken ++ f.piece;
@@ -121,20 +144,36 @@ stops_in_frames end before mid now count n at rest fed rest' front front' p f b 
       legal = legal;
       comes = comes_from end before now _ b.rest rest' at _ (rose_from _ _ _ p.write_faults) (place ∙ sym long) b.why;
       served = not_bad_words end b.rest rest' at _ b.why;
+      reads = inr (last_read before mid now count rest front p _ f.piece _ b.serves.served _ b.serves.written refl (serves_then-served _ _ _ _ b.serves) (serves_then-written _ _ _ _ b.serves) left under);
+      reading = λ _. read ∙ p.read_faults;
+      writing = λ able. b.quiet able ∙ p.write_faults;
+      flushed = λ is. absurd (not_read_fault end b.rest rest' at _ b.why is);
     }
 
 -- a session stops where all whole frames were answered, and nothing more was taken
 stops_here : (end : End) (before mid now : Outside) (count : ℕ) (rest : List ℕ) (front : Front) (p : Progress before mid count rest front)
     → Takes before.left now.left p.taken → now.held ≡ mid.held → ((k : ℕ) → now.moment k ≡ mid.moment k) → end ≢ ends.BadWords → is_quit_end end ≡ false → Comes before now p.taken rest (is_quit_end end) end
+    → Reads before now p.taken p.serves.served p.serves.written → (end ≢ ends.ReadFault → now.read_faults ≡ before.read_faults) → now.write_faults ≡ mid.write_faults
     → Stops before now end front
-stops_here end before mid now count rest front p takes held moment served none comes = record {
+stops_here end before mid now count rest front p takes held moment served none comes reads reading write = record {
   taken = p.taken;
   rest = rest;
   pending = front.conn.out.bytes;
   moment = mid.moment;
   takes = takes;
-  serves = subst (λ (h : Option (List ℕ)). Serves (begin before p.taken) (stand rest front h mid.moment (is_quit_end end))) (sym held)
-      (subst (λ (q : Bool). Serves (begin before p.taken) (stand rest front mid.held mid.moment q)) (sym none) p.serves);
+  serves = record {
+    served = p.serves.served;
+    written = p.serves.written;
+    rest = p.serves.rest;
+    each = p.serves.each;
+    noted = p.serves.noted;
+    texts = p.serves.texts;
+    features = p.serves.features;
+    quits = subst (λ (q : Bool). StopsAtQuit false p.serves.served q) (sym none) p.serves.quits;
+    wrote = subst (λ (h : Option (List ℕ)). Appends before.held h p.serves.written) (sym held) p.serves.wrote;
+    moments = p.serves.moments;
+    asked = p.serves.asked;
+  };
   kept = λ _. refl;
   extra = 0;
   few = omega arith;
@@ -143,22 +182,33 @@ stops_here end before mid now count rest front p takes held moment served none c
   legal = p.sound.legal;
   comes = comes;
   served = served;
+  reads = reads;
+  reading = reading;
+  writing = λ _. write ∙ p.write_faults;
+  flushed = λ _. p.written;
 }
+
+-- the last read gave no byte
+read_nothing : (before mid now : Outside) (count : ℕ) (rest : List ℕ) (front : Front) (p : Progress before mid count rest front) → now.left_before ≡ mid.left → count < most_taken
+    → Reads before now p.taken p.serves.served p.serves.written
+read_nothing before mid now count rest front p left under =
+    inr (last_read before mid now count rest front p _ [] _ [] _ [] (sym (append-nil p.taken)) (sym (append-nil p.serves.served)) (sym (append-nil p.serves.written)) left under)
 
 -- nothing was taken by a call that gave no byte
 takes_on : (a b c : Option (List ℕ)) (x y : List ℕ) → Takes a b x → Takes b c y → length y ≡ 0 → Takes a c x
 takes_on a b c x y p q e = subst (λ (l : List ℕ). Takes a c l) (ap (λ l. x ++ l) (no_bytes y e) ∙ append-nil x) (takes_then a b c x y p q)
 
-pub stops_at_limit : (before now : Outside) (count : ℕ) (rest : List ℕ) (front : Front) → Progress before now count rest front → count ≡ MAX_TAKEN → Stops before now ends.Limit front
+pub stops_at_limit : (before now : Outside) (count : ℕ) (rest : List ℕ) (front : Front) → Progress before now count rest front → count ≡ most_taken → Stops before now ends.Limit front
 stops_at_limit before now count rest front p full =
-    stops_here ends.Limit before now now count rest front p p.takes refl (λ _. refl) (λ e. cc) refl (record { partial = p.partial; going = p.going }, p.counted ∙ full, refl)
+    stops_here ends.Limit before now now count rest front p p.takes refl (λ _. refl) (λ e. cc) refl (record { partial = p.partial; going = p.going }, p.counted ∙ full, refl) p.reads (λ _. p.read_faults) refl
 
 pub stops_at_fault : (before mid now : Outside) (count : ℕ) (rest fed : List ℕ) (front : Front)
     → Progress before mid count rest front → Feeds got.Failed rest fed mid.left now.left → now.held ≡ mid.held → ((k : ℕ) → now.moment k ≡ mid.moment k)
-    → now.has_ended ≡ mid.has_ended → Rose mid.read_faults now.read_faults → count < MAX_TAKEN
+    → now.has_ended ≡ mid.has_ended → RoseByOne mid.read_faults now.read_faults → count < most_taken → now.left_before ≡ mid.left → now.write_faults ≡ mid.write_faults
     → Stops before now ends.ReadFault front
-stops_at_fault before mid now count rest fed front p f held moment going rose under =
+stops_at_fault before mid now count rest fed front p f held moment going rose under left write =
     stops_here ends.ReadFault before mid now count rest front p (takes_on _ _ _ _ _ p.takes f.takes f.count) held moment (λ e. cc) refl (record { partial = p.partial; going = going ∙ p.going }, omega (arith, p.counted), rose_from _ _ _ p.read_faults rose, refl)
+    (read_nothing before mid now count rest front p left under) (λ not. absurd (not refl)) write
 
 fed_nothing : (rest fed piece : List ℕ) → fed ≡ rest ++ piece → length piece ≡ 0 → fed ≡ rest
 fed_nothing rest fed piece e none = e ∙ ap (λ l. rest ++ l) (no_bytes piece none) ∙ append-nil rest
@@ -194,12 +244,13 @@ no_bad_words held end h e = subst (λ (x : End). EndsAt held x) e h
 
 pub stops_at_end : (end : End) (before mid now : Outside) (count : ℕ) (rest : List ℕ) (held : FeederData) (front : Front)
     → Progress before mid count rest front → Feeds got.End rest held.rest mid.left now.left → now.held ≡ mid.held → ((k : ℕ) → now.moment k ≡ mid.moment k)
-    → now.has_ended ≡ true → IsEmptied now.left → count < MAX_TAKEN → held.at + length rest ≡ count → EndsAt held end
+    → now.has_ended ≡ true → IsEmptied now.left → count < most_taken → held.at + length rest ≡ count → EndsAt held end → now.left_before ≡ mid.left → now.read_faults ≡ mid.read_faults → now.write_faults ≡ mid.write_faults
     → Stops before now end front
-stops_at_end end before mid now count rest held front p f same moment ended emptied under place at =
+stops_at_end end before mid now count rest held front p f same moment ended emptied under place at left read write =
     stops_here end before mid now count rest front p (takes_on _ _ _ _ _ p.takes f.takes f.count) same moment (no_bad_words held end at) (no_quit held end at)
     (ends_from end before now p.taken rest held (record { ended = ended; emptied = emptied; under = omega (arith, p.counted) }) p.partial
     (fed_nothing rest held.rest f.piece f.fed f.count) (place ∙ sym p.counted) at)
+    (read_nothing before mid now count rest front p left under) (λ _. read ∙ p.read_faults) write
 
 pub feeds_length : (n : ℕ) (old new : List ℕ) (left now : Option (List ℕ)) → Feeds (got.Bytes n) old new left now → length new ≡ length old + n
 feeds_length n old new left now f = omega (arith, ap (λ (l : List ℕ). length l) f.fed, length-append old f.piece, f.count)
@@ -227,6 +278,11 @@ progress_none before rest front none fresh sound = record {
   partial = subst (λ (l : List ℕ). IsPartial l) (sym none) (record { magic = λ h. absurd (omega arith); body = λ h. absurd (omega arith); short = λ h. absurd (omega arith) });
   written = fresh.answers;
   going = refl;
-  read_faults = omega arith;
-  write_faults = omega arith;
+  reads = inl (record { none = refl; left_before = refl });
+  read_faults = refl;
+  write_faults = refl;
 }
+
+-- a session that stopped has opened
+pub stops_opened : (before now : Outside) (end : End) (front : Front) → Stops before now end front → front.history ≡ [] → ⊥
+stops_opened before now end front s none = let opened = s.serves.noted in let bare = ap (events_of 0) none in cc

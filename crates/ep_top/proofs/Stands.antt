@@ -3,7 +3,8 @@ use Rattle.std.proofs.Common.{◌≡◌, ℕ, Bool, false, ◌+◌, ◌≤◌, L
 use Rattle.std.proofs.lemmas.List.{map-append, take-append-drop, length-drop, length-take}
 use Rattle.std.proofs.lemmas.Grind.{flat_map-append}
 use Rattle.std.specs.List.{AllByRecursion, concat, flat_map}
-use Rattle.ep_edge.specs.Edge.{Appends, Rose}
+use Rattle.ep_model.specs.Counts.{RoseByOne, raised}
+use Rattle.ep_edge.specs.Edge.{Appends}
 use Rattle.mcbp_frame.specs.declared.frame.Frame.{Frame}
 use Rattle.mcbp_frame.specs.declared.feeder.FeederData.{FeederData}
 use Rattle.mcbp_frame.specs.declared.feeder.Next.{Next}
@@ -19,7 +20,8 @@ use Rattle.vb_world.specs.History.{events_of}
 use Rattle.ep_top.specs.declared.end.End.{End}
 use Rattle.ep_top.specs.declared.end.End.TheVariants as ends
 use Rattle.ep_top.specs.declared.front.Front.{Front}
-use Rattle.ep_top.specs.Exchange.{Exchange, event_of, text_of, texts_of, features_of, act_in, is_quit, frame_of, StopsAtQuit, AreMoments}
+use Rattle.conn_core.specs.Exchange.{Exchange, features_of, is_quit, frame_of, AreMoments}
+use Rattle.ep_top.specs.Exchange.{event_of, text_of, texts_of, act_in, StopsAtQuit}
 use Rattle.ep_top.specs.Front.{Answered}
 use Rattle.ep_top.specs.Stand.{Stand, stand, bytes_of, Serves, Writes, is_quit_end, HasStopped, Breaks}
 
@@ -121,6 +123,23 @@ serves_writes s left held w = record {
   asked = λ k. ap s.moment (sym (zero-add k));
 }
 
+pub serves_then-served : (a b c : Stand) (p : Serves a b) (q : Serves b c) → (serves_then a b c p q).served ≡ p.served ++ q.served
+unfolding serves_then
+serves_then-served a b c p q = refl
+
+pub serves_then-written : (a b c : Stand) (p : Serves a b) (q : Serves b c) → (serves_then a b c p q).written ≡ p.written ++ q.written
+unfolding serves_then
+serves_then-written a b c p q = refl
+
+-- where answers are written no frame is served
+pub serves_writes-served : (s : Stand) (left : List ℕ) (held : Option (List ℕ)) (w : Writes s.pending left s.held held) → (serves_writes s left held w).served ≡ []
+unfolding serves_writes
+serves_writes-served s left held w = refl
+
+pub serves_writes-written : (s : Stand) (left : List ℕ) (held : Option (List ℕ)) (w : Writes s.pending left s.held held) → (serves_writes s left held w).written ≡ w.written
+unfolding serves_writes
+serves_writes-written s left held w = refl
+
 -- one frame was answered
 pub serves_answer : (bytes rest more : List ℕ) (at : ℕ) (old new : Front) (held : Option (List ℕ)) (m later : ℕ → Option ℕ) (quit : Bool)
     → IsFrame bytes → rest ≡ bytes ++ more → Answered (frame_at bytes at) m later quit old new → Serves (stand rest old held m false) (stand more new held later quit)
@@ -139,8 +158,8 @@ serves_answer bytes rest more at old new held m later quit frame split a = recor
 }
 
 -- serving stopped where it stands
-pub breaks_here : (end : End) (old new : Stand) (at : ℕ) (rose : Type 0) → Serves old (record new { quit = is_quit_end end }) → HasStopped end new.rest new.rest at rose → Breaks end old new at rose
-breaks_here end old new at rose p why = record {
+pub breaks_here : (end : End) (old new : Stand) (at f0 f1 : ℕ) → Serves old (record new { quit = is_quit_end end }) → f1 ≡ f0 → HasStopped end new.rest new.rest at (RoseByOne f0 f1) → Breaks end old new at f0 f1
+breaks_here end old new at f0 f1 p quiet why = record {
   rest = new.rest;
   pending = new.pending;
   moment = new.moment;
@@ -151,12 +170,13 @@ breaks_here end old new at rose p why = record {
   exact = λ _. refl;
   asked = λ k. ap new.moment (sym (zero-add k));
   why = why;
+  quiet = λ _. quiet;
 }
 
 -- a fault of writing lost some of the pending answers
-pub breaks_fault : (old new : Stand) (lost kept : List ℕ) (held : Option (List ℕ)) (at : ℕ) (rose : Type 0) → Serves old new → new.quit ≡ false → Writes new.pending lost new.held held → rose
-    → Breaks ends.WriteFault old (record new { pending = kept; held = held }) at rose
-breaks_fault old new lost kept held at rose p none w why = record {
+pub breaks_fault : (old new : Stand) (lost kept : List ℕ) (held : Option (List ℕ)) (at f0 f1 : ℕ) → Serves old new → new.quit ≡ false → Writes new.pending lost new.held held → RoseByOne f0 f1
+    → Breaks ends.WriteFault old (record new { pending = kept; held = held }) at f0 f1
+breaks_fault old new lost kept held at f0 f1 p none w why = record {
   rest = new.rest;
   pending = lost;
   moment = new.moment;
@@ -167,13 +187,14 @@ breaks_fault old new lost kept held at rose p none w why = record {
   exact = λ _. refl;
   asked = λ k. ap new.moment (sym (zero-add k));
   why = why;
+  quiet = λ h. absurd (h refl);
 }
 
 -- memory was wanting for the frame that was handed out, behind some answers that were written
-pub breaks_memory_at : (rest more : List ℕ) (old new : Front) (left : List ℕ) (held now : Option (List ℕ)) (m later : ℕ → Option ℕ) (at : ℕ) (rose : Type 0)
+pub breaks_memory_at : (rest more : List ℕ) (old new : Front) (left : List ℕ) (held now : Option (List ℕ)) (m later : ℕ → Option ℕ) (at f0 f1 : ℕ) → f1 ≡ f0
     → Writes old.conn.out.bytes left held now → new.history ≡ old.history → new.conn.out.bytes ≡ left → new.conn.features ≡ old.conn.features → ((k : ℕ) → later k ≡ m (k + 1))
-    → Breaks ends.NoMemory (stand rest old held m false) (stand more new now later false) at rose
-breaks_memory_at rest more old new left held now m later at rose w history same features asked = record {
+    → Breaks ends.NoMemory (stand rest old held m false) (stand more new now later false) at f0 f1
+breaks_memory_at rest more old new left held now m later at f0 f1 quiet w history same features asked = record {
   rest = rest;
   pending = new.conn.out.bytes;
   moment = m;
@@ -196,20 +217,25 @@ breaks_memory_at rest more old new left held now m later at rose w history same 
   exact = λ h. absurd (h refl);
   asked = λ k. asked k ∙ ap m (omega arith);
   why = tt;
+  quiet = λ _. quiet;
 }
 
 -- what a feeder holds begins no request, or says a body that is too long
-pub breaks_bad_magic : (held later : FeederData) (old new : Stand) (place : ℕ) (rose : Type 0) → Serves old new → new.quit ≡ false → new.rest ≡ later.rest → later ≡ held → HasBadMagic held.rest → place ≡ held.at
-    → Breaks (ends.BadMagic place) old new later.at rose
-breaks_bad_magic held later old new place rose p none rest same bad at =
-    breaks_here (ends.BadMagic place) old new later.at rose (subst (λ (q : Bool). Serves old (record new { quit = q })) none p)
+pub breaks_bad_magic : (held later : FeederData) (old new : Stand) (place f0 f1 : ℕ) → f1 ≡ f0 → Serves old new → new.quit ≡ false → new.rest ≡ later.rest → later ≡ held → HasBadMagic held.rest → place ≡ held.at
+    → Breaks (ends.BadMagic place) old new later.at f0 f1
+breaks_bad_magic held later old new place f0 f1 quiet p none rest same bad at =
+    breaks_here (ends.BadMagic place) old new later.at f0 f1 (subst (λ (q : Bool). Serves old (record new { quit = q })) none p) quiet
     (subst (λ (l : List ℕ). HasBadMagic l) (sym (rest ∙ ap (λ (x : FeederData). x.rest) same)) bad, refl, at ∙ sym (ap (λ (x : FeederData). x.at) same))
 
-pub breaks_too_long : (held later : FeederData) (old new : Stand) (place : ℕ) (rose : Type 0) → Serves old new → new.quit ≡ false → new.rest ≡ later.rest → later ≡ held → IsTooLong held.rest → place ≡ held.at
-    → Breaks (ends.TooLong place) old new later.at rose
-breaks_too_long held later old new place rose p none rest same bad at =
-    breaks_here (ends.TooLong place) old new later.at rose (subst (λ (q : Bool). Serves old (record new { quit = q })) none p)
+pub breaks_too_long : (held later : FeederData) (old new : Stand) (place f0 f1 : ℕ) → f1 ≡ f0 → Serves old new → new.quit ≡ false → new.rest ≡ later.rest → later ≡ held → IsTooLong held.rest → place ≡ held.at
+    → Breaks (ends.TooLong place) old new later.at f0 f1
+breaks_too_long held later old new place f0 f1 quiet p none rest same bad at =
+    breaks_here (ends.TooLong place) old new later.at f0 f1 (subst (λ (q : Bool). Serves old (record new { quit = q })) none p) quiet
     (subst (λ (l : List ℕ). IsTooLong l) (sym (rest ∙ ap (λ (x : FeederData). x.rest) same)) bad, refl, at ∙ sym (ap (λ (x : FeederData). x.at) same))
+
+-- a count that rose by one after it stood rose by one
+pub rose_from : (a b c : ℕ) → b ≡ a → RoseByOne b c → RoseByOne a c
+rose_from a b c e h = h ∙ ap raised e
 
 still_stopped : (end : End) (rest kept : List ℕ) (at : ℕ) (rose later : Type 0) → (rose → later) → HasStopped end rest kept at rose → HasStopped end rest kept at later
 still_stopped ends.BadWords rest kept at rose later f h = h
@@ -223,8 +249,8 @@ still_stopped ends.WriteFault rest kept at rose later f h = f h
 still_stopped ends.Quit rest kept at rose later f h = h
 still_stopped ends.Closed rest kept at rose later f h = h
 
-pub breaks_then : (end : End) (a b c : Stand) (at : ℕ) (rose later : Type 0) → Serves a b → (rose → later) → Breaks end b c at rose → Breaks end a c at later
-breaks_then end a b c at rose later p f q = record {
+pub breaks_then : (end : End) (a b c : Stand) (at f0 f1 f2 : ℕ) → Serves a b → f1 ≡ f0 → Breaks end b c at f1 f2 → Breaks end a c at f0 f2
+breaks_then end a b c at f0 f1 f2 p before q = record {
   rest = q.rest;
   pending = q.pending;
   moment = q.moment;
@@ -234,11 +260,9 @@ breaks_then end a b c at rose later p f q = record {
   few = q.few;
   exact = q.exact;
   asked = q.asked;
-  why = still_stopped end q.rest c.rest at rose later f q.why;
+  why = still_stopped end q.rest c.rest at (RoseByOne f1 f2) (RoseByOne f0 f2) (rose_from f0 f1 f2 before) q.why;
+  quiet = λ able. q.quiet able ∙ before;
 }
-
-pub rose_from : (a b c : ℕ) → a ≤ b → Rose b c → Rose a c
-rose_from a b c le h = omega arith
 
 -- what a feeder holds after it handed out a frame is the rest without it
 pub split_first : (held later : FeederData) (n : Next) (frame : Frame) → n ≡ nexts.Frame frame → later ≡ after_next held n → held.rest ≡ first_frame held.rest ++ later.rest

@@ -11,9 +11,10 @@ use Rattle.ep_model.specs.Legal.{IsLegal}
 use Rattle.vb_world.specs.History.{events_of, under}
 use Rattle.mcbp_frame.specs.declared.frame.FrameData.{FrameData}
 use Rattle.ep_top.specs.declared.front.Front.{Front}
-use Rattle.conn_core.specs.declared.conn.TheConstants.{OUT_ROOM, VALUE_ROOM}
+use Rattle.conn_core.specs.Conns.{out_room, value_room}
 use Rattle.conn_core.specs.Acts.{features_after}
-use Rattle.ep_top.specs.Exchange.{act_in, is_quit, event_in, text_in}
+use Rattle.conn_core.specs.Exchange.{is_quit}
+use Rattle.ep_top.specs.Exchange.{act_in, event_in, text_in}
 
 -- One vBucket of one stripe, in which a document may take as many blocks as the plain map lets it.
 abbrev pub session_config : Config
@@ -33,8 +34,8 @@ pub record IsSound (f : Front) : Type 0 where
   pub world : f.plain ≡ world_of (session_front (events_of 0 f.history))
   pub legal : IsLegalHistory f.history
   pub opened : f.plain.opened ≡ true
-  pub answers : f.conn.out.spare + length f.conn.out.bytes ≡ OUT_ROOM
-  pub value : f.conn.value.spare + length f.conn.value.bytes ≡ VALUE_ROOM
+  pub answers : f.conn.out.spare + length f.conn.out.bytes ≡ out_room
+  pub value : f.conn.value.spare + length f.conn.value.bytes ≡ value_room
 
 -- it has opened, and nothing else
 pub record IsFresh (f : Front) : Type 0 where

@@ -2,8 +2,10 @@
 use Rattle.std.specs.Prelude.{ℕ, Bool, List, Option}
 
 pub record Outside : Type 0 where
-  -- the bytes that the source has left, whether it has answered its end, and how often it failed
+  -- the bytes that the source has left and had left as its last read began, whether it has answered its end, and
+  -- how often it failed
   pub left : Option (List ℕ)
+  pub left_before : Option (List ℕ)
   pub has_ended : Bool
   pub read_faults : ℕ
   -- the bytes that the sink holds, and how often it failed
@@ -13,5 +15,5 @@ pub record Outside : Type 0 where
   pub moment : ℕ → Option ℕ
 
 -- what they tell, put together
-abbrev pub outside : Option (List ℕ) → Bool → ℕ → Option (List ℕ) → ℕ → (ℕ → Option ℕ) → Outside
-outside left has_ended read_faults held write_faults moment = record { left = left; has_ended = has_ended; read_faults = read_faults; held = held; write_faults = write_faults; moment = moment }
+abbrev pub outside : Option (List ℕ) → Option (List ℕ) → Bool → ℕ → Option (List ℕ) → ℕ → (ℕ → Option ℕ) → Outside
+outside left left_before has_ended read_faults held write_faults moment = record { left = left; left_before = left_before; has_ended = has_ended; read_faults = read_faults; held = held; write_faults = write_faults; moment = moment }

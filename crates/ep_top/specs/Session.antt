@@ -1,27 +1,37 @@
 -- What a session does: the bytes it takes, the frames it serves, the history, what it writes, and how it ends.
 use Rattle.std.specs.Prelude.{◌≡◌, ◌≢◌, ◌⊎◌, ℕ, ◌+◌, ◌<◌, ◌≤◌, Bool, true, false, List, [], ◌∷◌, ◌++◌, length, Option, codes}
-use Rattle.std.specs.List.{flat_map}
+use Rattle.std.specs.List.{concat, flat_map}
 use Rattle.ep_model.specs.Legal.{IsLegal}
 use Rattle.ep_model.specs.declared.data.EventData.{EventData}
 use Rattle.ep_model.specs.declared.data.EventData.TheVariants.{Opened}
-use Rattle.ep_edge.specs.Edge.{Takes, Rose, IsEmptied, Appends}
+use Rattle.ep_model.specs.Counts.{RoseByOne}
+use Rattle.ep_edge.specs.Edge.{Takes, IsEmptied, Appends}
 use Rattle.mcbp_frame.specs.Division.{Divides, HasBadMagic, IsTooLong, IsPartial}
 use Rattle.mcbp_frame.specs.declared.feeder.FeederData.{FeederData}
+use Rattle.conn_core.specs.declared.hello.Features.{Features}
 use Rattle.vb_world.specs.History.{events_of, under}
 use Rattle.ep_top.specs.declared.end.End.{End}
 use Rattle.ep_top.specs.declared.end.End.TheVariants as ends
 use Rattle.ep_top.specs.declared.front.Front.{Front}
-use Rattle.ep_top.specs.declared.session.TheConstants.{MAX_TAKEN}
-use Rattle.ep_top.specs.Exchange.{Exchange, event_of, texts_of, StopsAtQuit, AreMoments}
+use Rattle.conn_core.specs.Exchange.{Exchange, AreMoments}
+use Rattle.ep_top.specs.Exchange.{event_of, texts_of, StopsAtQuit}
 use Rattle.ep_top.specs.Front.{session_front, IsLegalHistory, IsSound}
 use Rattle.ep_top.specs.Outside.{Outside}
 use Rattle.ep_top.specs.Stand.{Stand, stand, bytes_of, Serves, Writes, is_quit_end}
+
+-- how many bytes a session takes at most
+abbrev pub most_taken : ℕ
+most_taken = 1099511627776
+
+-- the features as a connection begins
+abbrev pub no_features : Features
+no_features = record { seqno = false }
 
 -- the source answered its end after fewer bytes than a session takes, and nothing was left
 pub record HasEnded (now : Outside) (taken : List ℕ) : Type 0 where
   pub ended : now.has_ended ≡ true
   pub emptied : IsEmptied now.left
-  pub under : length taken < MAX_TAKEN
+  pub under : length taken < most_taken
 
 -- the rest may become a frame, and the source hasn't ended since
 pub record MayGoOn (before now : Outside) (rest : List ℕ) : Type 0 where
@@ -49,9 +59,9 @@ Comes before now taken rest quit ends.NoMemory = Unit {0}
 Comes before now taken rest quit (ends.BadMagic at) = HasBadMagic rest × (at + length rest ≡ length taken) × (quit ≡ false)
 Comes before now taken rest quit (ends.TooLong at) = IsTooLong rest × (at + length rest ≡ length taken) × (quit ≡ false)
 Comes before now taken rest quit (ends.Torn at) = HasEnded now taken × IsPartial rest × (rest ≢ []) × (at + length rest ≡ length taken) × (quit ≡ false)
-Comes before now taken rest quit ends.Limit = MayGoOn before now rest × (length taken ≡ MAX_TAKEN) × (quit ≡ false)
-Comes before now taken rest quit ends.ReadFault = MayGoOn before now rest × (length taken < MAX_TAKEN) × Rose before.read_faults now.read_faults × (quit ≡ false)
-Comes before now taken rest quit ends.WriteFault = Rose before.write_faults now.write_faults
+Comes before now taken rest quit ends.Limit = MayGoOn before now rest × (length taken ≡ most_taken) × (quit ≡ false)
+Comes before now taken rest quit ends.ReadFault = MayGoOn before now rest × (length taken < most_taken) × RoseByOne before.read_faults now.read_faults × (quit ≡ false)
+Comes before now taken rest quit ends.WriteFault = RoseByOne before.write_faults now.write_faults
 Comes before now taken rest quit ends.Quit = quit ≡ true
 Comes before now taken rest quit ends.Closed = HasEnded now taken × (rest ≡ []) × (quit ≡ false)
 
@@ -67,6 +77,32 @@ IsNoted ends.ReadFault history served = history ≡ Opened ∷ flat_map event_of
 IsNoted ends.WriteFault history served = history ≡ Opened ∷ flat_map event_of served
 IsNoted ends.Quit history served = history ≡ Opened ∷ flat_map event_of served
 IsNoted ends.Closed history served = history ≡ Opened ∷ flat_map event_of served
+
+-- no byte was taken, and nothing was read
+pub record IsUnread (before now : Outside) (taken : List ℕ) : Type 0 where
+  pub none : taken ≡ []
+  pub left_before : now.left_before ≡ before.left_before
+
+-- Before the last read began, all whole frames of what was taken by then were served and their answers were
+-- written, and no end was known: no Quit was served, and the rest may become a frame.
+pub record LastRead (before now : Outside) (taken : List ℕ) (served : List Exchange) (written : List ℕ) : Type 0 where
+  pub earlier : List ℕ
+  pub last : List ℕ
+  pub parts : taken ≡ earlier ++ last
+  pub takes : Takes before.left now.left_before earlier
+  pub under : length earlier < most_taken
+  pub first : List Exchange
+  pub later : List Exchange
+  pub rest : List ℕ
+  pub more : List ℕ
+  pub order : served ≡ first ++ later
+  pub divided : earlier ≡ concat (bytes_of first) ++ rest
+  pub partial : IsPartial rest
+  pub quits : StopsAtQuit false first false
+  pub texts : written ≡ texts_of no_features first ++ more
+
+abbrev pub Reads : Outside → Outside → List ℕ → List Exchange → List ℕ → Type 0
+Reads before now taken served written = IsUnread before now taken ⊎ LastRead before now taken served written
 
 pub record IsSession (before now : Outside) (end : End) (history : List (ℕ × EventData)) : Type 0 where
   -- the bytes taken from the source, their one division, and what was served and written
@@ -98,9 +134,13 @@ pub record IsSession (before now : Outside) (end : End) (history : List (ℕ × 
   pub legal : IsLegal (session_front events)
   -- what was written is the text of the answers, or after a fault of writing a front of it
   pub wrote : Appends before.held now.held written
-  pub texts : written ++ lost ≡ texts_of (record { seqno = false }) served
+  pub texts : written ++ lost ≡ texts_of no_features served
   pub whole : end ≢ ends.WriteFault → lost ≡ []
   pub comes : Comes before now taken rest quit end
+  -- each piece was served and answered before the next one was read, and no fault was passed over
+  pub reads : Reads before now taken served written
+  pub reading : end ≢ ends.ReadFault → now.read_faults ≡ before.read_faults
+  pub writing : end ≢ ends.WriteFault → now.write_faults ≡ before.write_faults
 
 -- the command line is the one word `session`
 abbrev pub IsSessionCommand : List (List ℕ) → Type 0
@@ -108,7 +148,7 @@ IsSessionCommand words = words ≡ codes "session" ∷ []
 
 -- a session that has taken these bytes and served none of them
 abbrev pub begin : Outside → List ℕ → Stand
-begin before taken = record { rest = taken; history = Opened ∷ []; pending = []; held = before.held; moment = before.moment; features = record { seqno = false }; quit = false }
+begin before taken = record { rest = taken; history = Opened ∷ []; pending = []; held = before.held; moment = before.moment; features = no_features; quit = false }
 
 -- so many bytes were taken, and each whole frame among them was answered
 pub record Progress (before now : Outside) (count : ℕ) (rest : List ℕ) (front : Front) : Type 0 where
@@ -120,8 +160,9 @@ pub record Progress (before now : Outside) (count : ℕ) (rest : List ℕ) (fron
   pub partial : IsPartial rest
   pub written : front.conn.out.bytes ≡ []
   pub going : now.has_ended ≡ before.has_ended
-  pub read_faults : before.read_faults ≤ now.read_faults
-  pub write_faults : before.write_faults ≤ now.write_faults
+  pub reads : Reads before now taken serves.served serves.written
+  pub read_faults : now.read_faults ≡ before.read_faults
+  pub write_faults : now.write_faults ≡ before.write_faults
 
 -- the end at the end of input: nothing is left over, or a frame that isn't whole
 abbrev pub EndsAt : FeederData → End → Type 0
@@ -152,26 +193,33 @@ pub record Stops (before now : Outside) (end : End) (front : Front) : Type 0 whe
   pub legal : IsLegalHistory front.history
   pub comes : Comes before now taken rest (is_quit_end end) end
   pub served : end ≢ ends.BadWords
+  pub reads : Reads before now taken serves.served serves.written
+  pub reading : end ≢ ends.ReadFault → now.read_faults ≡ before.read_faults
+  pub writing : end ≢ ends.WriteFault → now.write_faults ≡ before.write_faults
+  pub flushed : end ≡ ends.ReadFault → front.conn.out.bytes ≡ []
 
 -- the answers that were pending as a session stopped were written
-pub record Written (end final : End) (pending : List ℕ) (old new : Option (List ℕ)) : Type 0 where
+pub record Written (end final : End) (pending : List ℕ) (old new : Option (List ℕ)) (old_faults new_faults : ℕ) : Type 0 where
   pub same : final ≡ end
   pub able : end ≢ ends.WriteFault
   pub writes : Writes pending [] old new
+  pub quiet : new_faults ≡ old_faults
 
 -- some of them are lost by a fault of writing, which is then the end
-pub record Lost (end final : End) (pending : List ℕ) (old new : Option (List ℕ)) (rose : Type 0) : Type 0 where
+pub record Lost (end final : End) (pending : List ℕ) (old new : Option (List ℕ)) (old_faults new_faults : ℕ) : Type 0 where
   pub able : end ≢ ends.WriteFault
+  pub some : pending ≢ []
   pub fault : final ≡ ends.WriteFault
   pub lost : List ℕ
   pub writes : Writes pending lost old new
-  pub why : rose
+  pub why : RoseByOne old_faults new_faults
 
 -- nothing more was written after a fault of writing
-pub record Broken (end final : End) (old new : Option (List ℕ)) : Type 0 where
+pub record Broken (end final : End) (old new : Option (List ℕ)) (old_faults new_faults : ℕ) : Type 0 where
   pub before : end ≡ ends.WriteFault
   pub fault : final ≡ ends.WriteFault
   pub same : new ≡ old
+  pub quiet : new_faults ≡ old_faults
 
-abbrev pub Finishes : End → End → List ℕ → Option (List ℕ) → Option (List ℕ) → Type 0 → Type 0
-Finishes end final pending old new rose = Written end final pending old new ⊎ (Lost end final pending old new rose ⊎ Broken end final old new)
+abbrev pub Finishes : End → End → List ℕ → Option (List ℕ) → Option (List ℕ) → ℕ → ℕ → Type 0
+Finishes end final pending old new old_faults new_faults = Written end final pending old new old_faults new_faults ⊎ (Lost end final pending old new old_faults new_faults ⊎ Broken end final old new old_faults new_faults)

@@ -2,6 +2,7 @@
 use Rattle.std.specs.Prelude.{◌≡◌, ◌≢◌, ℕ, ◌+◌, ◌≤◌, Bool, true, false, List, ◌++◌, length, map, Option}
 use Rattle.std.specs.List.{AllByRecursion, concat, flat_map}
 use Rattle.ep_model.specs.declared.data.EventData.{EventData}
+use Rattle.ep_model.specs.Counts.{RoseByOne}
 use Rattle.ep_edge.specs.Edge.{Appends}
 use Rattle.mcbp_frame.specs.Frames.{IsFrame}
 use Rattle.mcbp_frame.specs.Division.{HasBadMagic, IsTooLong}
@@ -10,7 +11,8 @@ use Rattle.vb_world.specs.History.{events_of}
 use Rattle.ep_top.specs.declared.end.End.{End}
 use Rattle.ep_top.specs.declared.end.End.TheVariants as ends
 use Rattle.ep_top.specs.declared.front.Front.{Front}
-use Rattle.ep_top.specs.Exchange.{Exchange, event_of, texts_of, features_of, StopsAtQuit, AreMoments}
+use Rattle.conn_core.specs.Exchange.{Exchange, features_of, AreMoments}
+use Rattle.ep_top.specs.Exchange.{event_of, texts_of, StopsAtQuit}
 
 -- the bytes that were taken and aren't served, the history of vBucket 0, the answers that aren't written, what sink and clock tell, the
 -- features, and whether a Quit was served
@@ -78,7 +80,7 @@ is_quit_end ends.Closed = false
 
 -- Serving stopped behind the last frame that was answered. After want of memory the clock may have been asked for
 -- one frame more, and after a fault of writing some of the pending answers are lost.
-pub record Breaks (end : End) (old new : Stand) (at : ℕ) (rose : Type 0) : Type 0 where
+pub record Breaks (end : End) (old new : Stand) (at : ℕ) (old_faults new_faults : ℕ) : Type 0 where
   pub rest : List ℕ
   pub pending : List ℕ
   pub moment : ℕ → Option ℕ
@@ -88,4 +90,5 @@ pub record Breaks (end : End) (old new : Stand) (at : ℕ) (rose : Type 0) : Typ
   pub few : extra ≤ 1
   pub exact : end ≢ ends.NoMemory → extra ≡ 0
   pub asked : (k : ℕ) → new.moment k ≡ moment (extra + k)
-  pub why : HasStopped end rest new.rest at rose
+  pub why : HasStopped end rest new.rest at (RoseByOne old_faults new_faults)
+  pub quiet : end ≢ ends.WriteFault → new_faults ≡ old_faults

@@ -1,16 +1,16 @@
 // What answers frames: the plain map, the history, and the connection with the answers that aren't written yet.
-ghost use Rattle.std.specs.Prelude.{◌≡◌, ◌+◌, ◌<◌, ◌≤◌, ◌^◌, ◌++◌, ℕ, List, [], ◌∷◌, length, IfOk, OnOk, OnErr};
-ghost use Rattle.ep_edge.specs.Edge.{Rose};
+ghost use Rattle.std.specs.Prelude.{◌≡◌, ◌≢◌, ◌+◌, ◌<◌, ◌≤◌, ◌^◌, ◌++◌, ℕ, List, [], ◌∷◌, length, IfOk, OnOk, OnErr};
+ghost use Rattle.ep_model.specs.Counts.{RoseByOne};
 ghost use Rattle.ep_model.specs.History.{call_data};
 ghost use Rattle.ep_model.specs.Limits.{IsWithin};
 ghost use Rattle.ep_model.specs.declared.data.EventData.TheVariants.{Called};
 ghost use Rattle.mcbp_frame.specs.Frames.{frame_data};
 ghost use Rattle.mcbp_ops.specs.Text.{reply_text};
-ghost use Rattle.conn_core.specs.declared.conn.TheConstants.{VALUE_ROOM};
+ghost use Rattle.conn_core.specs.Conns.{value_room};
 ghost use Rattle.ep_top.specs.Calls.{Calls};
 ghost use Rattle.ep_top.specs.Stand.{Writes};
 
-use conn_core::{Act, Conn, VALUE_ROOM, put_status};
+use conn_core::{Act, Conn, put_status};
 use ep_edge::{Clock, Put, Sink};
 use ep_model::{Call, Event, NoMemory, Out, Plain, Reply, status};
 use mcbp_frame::Frame;
@@ -42,7 +42,7 @@ impl Front {
         let mut history = History::new(alloc);
         history.note(0, &Event::Opened)?;
         Ok(Front {
-            plain: Plain::new(alloc, 0),
+            plain: Plain::new(alloc),
             history,
             conn: Conn::new(alloc)?,
         })
@@ -93,7 +93,7 @@ fn answer_call(
     requires within { IsWithin (call_data call.now) }
     requires head { frame.now.extras_len + frame.now.key_len ≤ length frame.now.body.now }
     requires spare { 2097152 ≤ conn.old.out.spare }
-    requires value { conn.old.value.spare + length conn.old.value.bytes ≡ VALUE_ROOM }
+    requires value { conn.old.value.spare + length conn.old.value.bytes ≡ value_room }
     ensures called { OnOk result (Calls (frame_data frame.now) (call_data call.now) now plain.old plain.new history.old history.new conn.old conn.new) }
     ensures err { OnErr result ((history.new ≡ history.old) × (conn.new.out.bytes ≡ conn.old.out.bytes) × (conn.new.features ≡ conn.old.features)) }
 {
@@ -131,9 +131,10 @@ fn note_call(
 /// Writes the answers that aren't written yet. After a fault some of them are lost.
 pub fn flush<W: Sink>(answers: &mut Out, sink: &mut W) -> Put
     ensures done { result ≡ Put.Done → Writes answers.old.bytes answers.new.bytes (W.held sink.old) (W.held sink.new) × (answers.new.bytes ≡ []) }
-    ensures failed { result ≡ Put.Failed → ((lost : List ℕ) × Writes answers.old.bytes lost (W.held sink.old) (W.held sink.new)) × Rose (W.faults sink.old) (W.faults sink.new) }
+    ensures failed { result ≡ Put.Failed → ((lost : List ℕ) × Writes answers.old.bytes lost (W.held sink.old) (W.held sink.new)) × RoseByOne (W.faults sink.old) (W.faults sink.new) }
+    ensures some { result ≡ Put.Failed → answers.old.bytes ≢ [] }
     ensures room { answers.new.spare + length answers.new.bytes ≡ answers.old.spare + length answers.old.bytes }
-    ensures faults { W.faults sink.old ≤ W.faults sink.new }
+    ensures quiet { result ≡ Put.Done → W.faults sink.new ≡ W.faults sink.old }
 {
     if answers.bytes().is_empty() {
         return Put::Done;
@@ -149,9 +150,9 @@ pub fn flush<W: Sink>(answers: &mut Out, sink: &mut W) -> Put
 /// Writes the answers where they are many, so that one more has room.
 pub fn make_room<W: Sink>(answers: &mut Out, sink: &mut W) -> Put
     ensures done { result ≡ Put.Done → Writes answers.old.bytes answers.new.bytes (W.held sink.old) (W.held sink.new) × (length answers.new.bytes ≤ MAX_PENDING) }
-    ensures failed { result ≡ Put.Failed → ((lost : List ℕ) × Writes answers.old.bytes lost (W.held sink.old) (W.held sink.new)) × Rose (W.faults sink.old) (W.faults sink.new) }
+    ensures failed { result ≡ Put.Failed → ((lost : List ℕ) × Writes answers.old.bytes lost (W.held sink.old) (W.held sink.new)) × RoseByOne (W.faults sink.old) (W.faults sink.new) }
     ensures room { answers.new.spare + length answers.new.bytes ≡ answers.old.spare + length answers.old.bytes }
-    ensures faults { W.faults sink.old ≤ W.faults sink.new }
+    ensures quiet { result ≡ Put.Done → W.faults sink.new ≡ W.faults sink.old }
 {
     if answers.bytes().len() <= MAX_PENDING {
         return Put::Done;

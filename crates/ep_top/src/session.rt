@@ -1,6 +1,6 @@
 // The session: bytes in, answers out, and the history of what was answered.
 ghost use Rattle.std.specs.Prelude.{◌≡◌, ◌≢◌, ◌||◌, ◌+◌, ◌<◌, ◌≤◌, ◌^◌, ◌++◌, ◌↔◌, ℕ, List, [], length, map, true, false, string_bytes, OnOk, OnErr, IfOk, IfErr};
-ghost use Rattle.ep_edge.specs.Edge.{Rose, IsEmptied, is_end};
+ghost use Rattle.ep_edge.specs.Edge.{IsEmptied, is_end, read_faults};
 ghost use Rattle.mcbp_frame.specs.Division.{IsPartial};
 ghost use Rattle.ep_top.specs.Front.{IsLegalHistory, IsSound, IsFresh};
 ghost use Rattle.ep_top.specs.Outside.{outside};
@@ -36,7 +36,6 @@ fn serve_next<W: Sink, C: Clock>(
     sink: &mut W,
     clock: &mut C,
 ) -> Result<bool, End>
-    requires place { feeder.old.at + length feeder.old.rest < 2 ^ 64 }
     requires sound { IsSound front.old }
 
     ensures serves { OnOk result (Serves (stand feeder.old.rest front.old (W.held sink.old) (C.moment clock.old) false) (stand feeder.new.rest front.new (W.held sink.new) (C.moment clock.new) false)) }
@@ -44,11 +43,11 @@ fn serve_next<W: Sink, C: Clock>(
     ensures less { result ≡ Ok true → length feeder.new.rest < length feeder.old.rest }
     ensures partial { result ≡ Ok false → IsPartial feeder.new.rest }
 
-    ensures breaks { IfErr result (λ end. Breaks end (stand feeder.old.rest front.old (W.held sink.old) (C.moment clock.old) false) (stand feeder.new.rest front.new (W.held sink.new) (C.moment clock.new) false) feeder.new.at (Rose (W.faults sink.old) (W.faults sink.new))) }
+    ensures breaks { IfErr result (λ end. Breaks end (stand feeder.old.rest front.old (W.held sink.old) (C.moment clock.old) false) (stand feeder.new.rest front.new (W.held sink.new) (C.moment clock.new) false) feeder.new.at (W.faults sink.old) (W.faults sink.new)) }
     ensures legal { OnErr result (IsLegalHistory front.new.history) }
 
     ensures place { feeder.new.at + length feeder.new.rest ≡ feeder.old.at + length feeder.old.rest }
-    ensures faults { W.faults sink.old ≤ W.faults sink.new }
+    ensures quiet { OnOk result (W.faults sink.new ≡ W.faults sink.old) }
 {
     let Put::Done = make_room(&mut front.conn.out, sink) else {
         return Err(End::WriteFault);
@@ -72,7 +71,6 @@ fn drain<W: Sink, C: Clock>(
     sink: &mut W,
     clock: &mut C,
 ) -> Result<(), End>
-    requires place { feeder.old.at + length feeder.old.rest < 2 ^ 64 }
     requires sound { IsSound front.old }
 
     ensures serves { OnOk result (Serves (stand feeder.old.rest front.old (W.held sink.old) (C.moment clock.old) false) (stand feeder.new.rest front.new (W.held sink.new) (C.moment clock.new) false)) }
@@ -80,11 +78,11 @@ fn drain<W: Sink, C: Clock>(
     ensures partial { OnOk result (IsPartial feeder.new.rest) }
     ensures written { OnOk result (front.new.conn.out.bytes ≡ []) }
 
-    ensures breaks { IfErr result (λ end. Breaks end (stand feeder.old.rest front.old (W.held sink.old) (C.moment clock.old) false) (stand feeder.new.rest front.new (W.held sink.new) (C.moment clock.new) false) feeder.new.at (Rose (W.faults sink.old) (W.faults sink.new))) }
+    ensures breaks { IfErr result (λ end. Breaks end (stand feeder.old.rest front.old (W.held sink.old) (C.moment clock.old) false) (stand feeder.new.rest front.new (W.held sink.new) (C.moment clock.new) false) feeder.new.at (W.faults sink.old) (W.faults sink.new)) }
     ensures legal { OnErr result (IsLegalHistory front.new.history) }
 
     ensures place { feeder.new.at + length feeder.new.rest ≡ feeder.old.at + length feeder.old.rest }
-    ensures faults { W.faults sink.old ≤ W.faults sink.new }
+    ensures quiet { OnOk result (W.faults sink.new ≡ W.faults sink.old) }
 {
     'frames: loop {
         match serve_next(feeder, front, sink, clock) {
@@ -111,8 +109,8 @@ fn take<R: Source>(feeder: &mut Feeder, piece: &mut [u8], limit: u64, source: &m
     ensures count { (n : ℕ) → result ≡ Got.Bytes n → (0 < n) × (n ≤ limit) }
     ensures ended { R.has_ended source.new ≡ (R.has_ended source.old || is_end result) }
     ensures end { result ≡ Got.End → IsEmptied (R.left source.new) }
-    ensures failed { result ≡ Got.Failed → Rose (R.faults source.old) (R.faults source.new) }
-    ensures faults { R.faults source.old ≤ R.faults source.new }
+    ensures faults { R.faults source.new ≡ read_faults result (R.faults source.old) }
+    ensures before { R.left_before source.new ≡ R.left source.old }
 {
     let most = limit.min(PIECE as u64) as usize;
     let got = source.read(&mut piece[..most]);
@@ -148,9 +146,8 @@ fn serve_stream<R: Source, W: Sink, C: Clock>(
     requires fresh { IsFresh front.old }
     requires sound { IsSound front.old }
 
-    ensures stops { Stops (outside (R.left source.old) (R.has_ended source.old) (R.faults source.old) (W.held sink.old) (W.faults sink.old) (C.moment clock.old))
-        (outside (R.left source.new) (R.has_ended source.new) (R.faults source.new) (W.held sink.new) (W.faults sink.new) (C.moment clock.new)) result front.new }
-    ensures faults { W.faults sink.old ≤ W.faults sink.new }
+    ensures stops { Stops (outside (R.left source.old) (R.left_before source.old) (R.has_ended source.old) (R.faults source.old) (W.held sink.old) (W.faults sink.old) (C.moment clock.old))
+        (outside (R.left source.new) (R.left_before source.new) (R.has_ended source.new) (R.faults source.new) (W.held sink.new) (W.faults sink.new) (C.moment clock.new)) result front.new }
 {
     let mut taken: u64 = 0;
     'pieces: while taken < MAX_TAKEN {
@@ -170,8 +167,7 @@ fn serve_stream<R: Source, W: Sink, C: Clock>(
 
 // Writes what is pending as a session ends, unless a fault of writing ended it.
 fn finish<W: Sink>(end: End, answers: &mut Out, sink: &mut W) -> End
-    ensures finishes { Finishes end result answers.old.bytes (W.held sink.old) (W.held sink.new) (Rose (W.faults sink.old) (W.faults sink.new)) }
-    ensures faults { W.faults sink.old ≤ W.faults sink.new }
+    ensures finishes { Finishes end result answers.old.bytes (W.held sink.old) (W.held sink.new) (W.faults sink.old) (W.faults sink.new) }
 {
     if let End::WriteFault = end {
         return End::WriteFault;
@@ -229,8 +225,10 @@ pub fn run_session<R: Source, W: Sink, C: Clock>(
 ) -> SessionEnd
     ensures words { result.end ≡ End.BadWords → IsSessionCommand (map string_bytes words.now.items) → ⊥ }
     ensures bad_words { (IsSessionCommand (map string_bytes words.now.items) → ⊥) → result.end ≡ End.BadWords }
-    ensures session { IsSession (outside (R.left source.old) (R.has_ended source.old) (R.faults source.old) (W.held sink.old) (W.faults sink.old) (C.moment clock.old))
-        (outside (R.left source.new) (R.has_ended source.new) (R.faults source.new) (W.held sink.new) (W.faults sink.new) (C.moment clock.new)) result.end result.history }
+    ensures session { IsSession (outside (R.left source.old) (R.left_before source.old) (R.has_ended source.old) (R.faults source.old) (W.held sink.old) (W.faults sink.old) (C.moment clock.old))
+        (outside (R.left source.new) (R.left_before source.new) (R.has_ended source.new) (R.faults source.new) (W.held sink.new) (W.faults sink.new) (C.moment clock.new)) result.end result.history }
+    ensures refused { result.end ≡ End.BadWords → (source.new ≡ source.old) × (sink.new ≡ sink.old) × (clock.new ≡ clock.old) }
+    ensures unopened { result.history ≡ [] → (source.new ≡ source.old) × (sink.new ≡ sink.old) × (clock.new ≡ clock.old) }
 {
     if !is_session(words) {
         return SessionEnd {
@@ -260,8 +258,9 @@ fn serve<R: Source, W: Sink, C: Clock>(
     requires sound { IsSound parts.front }
     requires piece { length parts.piece.items ≡ PIECE }
     ensures served { result.end ≡ End.BadWords → ⊥ }
-    ensures session { IsSession (outside (R.left source.old) (R.has_ended source.old) (R.faults source.old) (W.held sink.old) (W.faults sink.old) (C.moment clock.old))
-        (outside (R.left source.new) (R.has_ended source.new) (R.faults source.new) (W.held sink.new) (W.faults sink.new) (C.moment clock.new)) result.end result.history }
+    ensures opened { result.history ≡ [] → ⊥ }
+    ensures session { IsSession (outside (R.left source.old) (R.left_before source.old) (R.has_ended source.old) (R.faults source.old) (W.held sink.old) (W.faults sink.old) (C.moment clock.old))
+        (outside (R.left source.new) (R.left_before source.new) (R.has_ended source.new) (R.faults source.new) (W.held sink.new) (W.faults sink.new) (C.moment clock.new)) result.end result.history }
 {
     let Parts {
         mut feeder,

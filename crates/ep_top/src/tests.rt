@@ -67,6 +67,26 @@ struct Outcome {
     history: History,
 }
 
+/// A session over the forms in memory. It has no clause, so that its callers are proved without those of a session.
+fn run(
+    alloc: Global,
+    command: &Vec<String>,
+    source: &mut MemorySource,
+    sink: &mut MemorySink,
+    clock: &mut MemoryClock,
+) -> SessionEnd {
+    run_session(alloc, command, source, sink, clock)
+}
+
+/// The words of a command line.
+fn words_of(alloc: Global, words: &[&str]) -> Result<Vec<String>, AllocError> {
+    let mut command = Vec::new(alloc);
+    for word in words {
+        command.push(word.to_string(alloc)?)?;
+    }
+    Ok(command)
+}
+
 /// A session on these words, whose reads give so many bytes, and whose reads and writes with these numbers fail.
 fn session_on(
     alloc: Global,
@@ -76,20 +96,11 @@ fn session_on(
     failing_reads: &[u64],
     failing_writes: &[u64],
 ) -> Result<Outcome, Fail> {
-    let mut command = Vec::new(alloc);
-    for word in words {
-        command.push(word.to_string(alloc)?)?;
-    }
+    let command = words_of(alloc, words)?;
     let mut source = MemorySource::new(input.to_vec(alloc)?, pieces, failing_reads.to_vec(alloc)?);
     let mut sink = MemorySink::new(alloc, 1_000, failing_writes.to_vec(alloc)?)?;
     let mut clock = MemoryClock::new(vec![in alloc; MOMENT]?);
-    let SessionEnd { end, history } = run_session(
-        alloc,
-        &command,
-        &mut source,
-        &mut sink,
-        &mut clock,
-    );
+    let SessionEnd { end, history } = run(alloc, &command, &mut source, &mut sink, &mut clock);
     Ok(Outcome {
         end,
         written: sink.bytes().to_vec(alloc)?,

@@ -54,6 +54,15 @@ fn documents_are_stored_and_refused(rt: HostRuntime) -> Result<(), Fail> {
 }
 
 #[test]
+fn a_set_at_the_same_moment_has_the_next_cas(rt: HostRuntime) -> Result<(), Fail> {
+    let next = "81 01 0000 00 00 0000 00000000 00000000 0de0b6b3a7640001";
+    check_answers(
+        &rt,
+        &[("Set", SET, SET_ANSWER), ("the same Set again", SET, next)],
+    )
+}
+
+#[test]
 fn counters_count(rt: HostRuntime) -> Result<(), Fail> {
     check_answers(
         &rt,

@@ -2,14 +2,14 @@
 use super::*;
 use ep_model::{Call, Event, Reply};
 
-/// How many bytes a Set and a Get of Hello are.
-const LENGTH: usize = 71;
+/// How many bytes a Noop, and a Set and a Get of Hello are.
+const LENGTH: usize = 95;
 
 #[test]
 fn answers_do_not_depend_on_the_pieces(rt: HostRuntime) -> Result<(), Fail> {
     let alloc = rt.alloc();
-    let input = bytes_of(alloc, &[SET, GET])?;
-    let answers = bytes_of(alloc, &[SET_ANSWER, GET_ANSWER])?;
+    let input = bytes_of(alloc, &[NOOP, SET, GET])?;
+    let answers = bytes_of(alloc, &[NOOP_ANSWER, SET_ANSWER, GET_ANSWER])?;
     assert_eq!(rt; input.len(), LENGTH);
     let mut cuts = vec![in alloc; vec![in alloc; 1; LENGTH]?]?;
     for first in 1..=LENGTH as u32 {

@@ -1,23 +1,23 @@
 -- Frame after frame, and then what is pending is written.
-use Rattle.std.proofs.Common.{false, ◌∙◌, refl, arith}
+use Rattle.std.proofs.Common.{false, ◌∙◌, refl}
 use Rattle.ep_top.specs.Stand.{stand}
 use Rattle.ep_top.proofs.Stands.{serves_nothing, serves_writes, serves_then, breaks_fault, breaks_then, rose_from}
 use Rattle.ep_top.proofs.session.drain.Goals as goal
 
 pub frames-init : goal.frames-init
-frames-init g c = record { serves = serves_nothing _; sound = c.requires.sound; place = refl; faults = omega arith }
+frames-init g c = record { serves = serves_nothing _; sound = c.requires.sound; place = refl; faults = refl }
 
 pub frames-preserved : goal.frames-preserved
 frames-preserved g c = record {
   serves = serves_then _ _ _ c.frames.invariant.serves c.in-Ok-true.ensures.serves;
   sound = c.in-Ok-true.ensures.sound;
   place = c.in-Ok-true.ensures.place ∙ c.frames.invariant.place;
-  faults = omega (arith, c.in-Ok-true.ensures.faults);
+  faults = c.in-Ok-true.ensures.quiet ∙ c.frames.invariant.faults;
 }
 
 pub returns-in-Err-clause-breaks : goal.returns-in-Err-clause-breaks
 returns-in-Err-clause-breaks g c =
-    breaks_then _ _ _ _ _ _ _ c.frames.invariant.serves (rose_from _ _ _ c.frames.invariant.faults) c.in-Err.ensures.breaks
+    breaks_then _ _ _ _ _ _ _ _ c.frames.invariant.serves c.frames.invariant.faults c.in-Err.ensures.breaks
 
 pub returns-in-Done-clause-serves : goal.returns-in-Done-clause-serves
 returns-in-Done-clause-serves g c =
@@ -29,6 +29,4 @@ pub returns-in-Failed-clause-breaks : goal.returns-in-Failed-clause-breaks
 returns-in-Failed-clause-breaks g c =
     let here = stand c.serve_next.new.feeder.rest c.serve_next.new.front (g.W.Sink.held c.serve_next.new.sink) (g.C.Clock.moment c.serve_next.new.clock) false in
     let fault = c.flush.ensures.failed c.in-Failed.is in
-    let before = c.frames.invariant.faults in
-    let then_ = c.in-Ok-false.ensures.faults in
-    breaks_fault _ here fault.0.0 _ _ _ _ (serves_then _ _ here c.frames.invariant.serves c.in-Ok-false.ensures.serves) refl fault.0.1 (rose_from _ _ _ (omega arith) fault.1)
+    breaks_fault _ here fault.0.0 _ _ _ _ _ (serves_then _ _ here c.frames.invariant.serves c.in-Ok-false.ensures.serves) refl fault.0.1 (rose_from _ _ _ (c.in-Ok-false.ensures.quiet ∙ c.frames.invariant.faults) fault.1)

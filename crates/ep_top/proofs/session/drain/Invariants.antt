@@ -1,4 +1,4 @@
-use Rattle.std.proofs.Common.{false, ◌≡◌, ◌+◌, ◌≤◌, length}
+use Rattle.std.proofs.Common.{false, ◌≡◌, ◌+◌, length}
 use Rattle.ep_top.specs.Front.{IsSound}
 use Rattle.ep_top.specs.Stand.{stand, Serves}
 use Rattle.ep_top.proofs.session.drain.Given as goal
@@ -9,7 +9,7 @@ invariant-frames g l = record {
   serves : Serves (stand l.fn.feeder.rest l.fn.front (g.W.Sink.held l.fn.sink) (g.C.Clock.moment l.fn.clock) false) (stand l.feeder.rest l.front (g.W.Sink.held l.sink) (g.C.Clock.moment l.clock) false);
   sound : IsSound l.front;
   place : l.feeder.at + length l.feeder.rest ≡ l.fn.feeder.at + length l.fn.feeder.rest;
-  faults : g.W.Sink.faults l.fn.sink ≤ g.W.Sink.faults l.sink;
+  faults : g.W.Sink.faults l.sink ≡ g.W.Sink.faults l.fn.sink;
 }
 
 abbrev pub decreases-frames : goal.decreases-frames
