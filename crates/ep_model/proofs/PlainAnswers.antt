@@ -9,20 +9,20 @@ use Rattle.ep_model.specs.declared.document.Document.{Document}
 use Rattle.ep_model.specs.World.{Doc, Docs, World, live, live_of, put}
 use Rattle.std.specs.Int.{w16, w64, to_be_bytes}
 use Rattle.ep_model.specs.Answer.{answer_observe}
-use Rattle.ep_model.specs.Plain.{docs_of, world_of}
-use Rattle.ep_model.proofs.PlainLemmas.{Entry}
+use Rattle.ep_model.specs.Plain.{plain_docs, plain_world}
+use Rattle.ep_model.proofs.PlainLemmas.{MapEntry}
 
 -- the world of a list whose documents are those before with one inserted
-pub world-put : (w : World) (id fit : ℕ) (state : VbState) (ds new : List Entry) (high maxcas : ℕ) (key k : List ℕ) (doc d : Doc) → world_of id fit state ds high maxcas ≡ w → docs_of new ≡ insert (docs_of ds) k d → k ≡ key → d ≡ doc → world_of id fit state new doc.seqno doc.cas ≡ put w key doc
+pub world-put : (w : World) (id fit : ℕ) (state : VbState) (ds new : List MapEntry) (high maxcas : ℕ) (key k : List ℕ) (doc d : Doc) → plain_world id fit state ds high maxcas ≡ w → plain_docs new ≡ insert (plain_docs ds) k d → k ≡ key → d ≡ doc → plain_world id fit state new doc.seqno doc.cas ≡ put w key doc
 world-put w id fit state ds new high maxcas key k doc d w-is new-is key-is doc-is =
-    ap (λ (m : Docs). record (world_of id fit state new doc.seqno doc.cas) { docs = m }) (new-is ∙ ap (λ x. insert (docs_of ds) x d) key-is ∙ ap (λ x. insert (docs_of ds) key x) doc-is)
+    ap (λ (m : Docs). record (plain_world id fit state new doc.seqno doc.cas) { docs = m }) (new-is ∙ ap (λ x. insert (plain_docs ds) x d) key-is ∙ ap (λ x. insert (plain_docs ds) key x) doc-is)
     ∙ ap (λ x. put x key doc) w-is
 
 -- what ObserveSeqno shows of a plain list
-pub observe-value : (w : World) (id fit : ℕ) (state : VbState) (ds : List Entry) (high maxcas uuid : ℕ) → world_of id fit state ds high maxcas ≡ w → uuid ≡ 0 → (answer_observe w uuid).value ≡ (0 ∷ []) ++ to_be_bytes w16 id ++ to_be_bytes w64 0 ++ to_be_bytes w64 0 ++ to_be_bytes w64 high
+pub observe-value : (w : World) (id fit : ℕ) (state : VbState) (ds : List MapEntry) (high maxcas uuid : ℕ) → plain_world id fit state ds high maxcas ≡ w → uuid ≡ 0 → (answer_observe w uuid).value ≡ (0 ∷ []) ++ to_be_bytes w16 id ++ to_be_bytes w64 0 ++ to_be_bytes w64 0 ++ to_be_bytes w64 high
 observe-value w id fit state ds high maxcas uuid w-is uuid-is =
     ap (λ (v : World). (answer_observe v uuid).value) (sym w-is)
-    ∙ ap (λ u. (answer_observe (world_of id fit state ds high maxcas) u).value) uuid-is
+    ∙ ap (λ u. (answer_observe (plain_world id fit state ds high maxcas) u).value) uuid-is
 
 -- five pieces that are pushed one after another
 pub five-pushes : (old a b c d e r s t u n₁ n₂ n₃ n₄ n₅ : List ℕ) → n₁ ≡ old ++ a → n₂ ≡ n₁ ++ r → r ≡ b → n₃ ≡ n₂ ++ s → s ≡ c → n₄ ≡ n₃ ++ t → t ≡ d → n₅ ≡ n₄ ++ u → u ≡ e → n₅ ≡ old ++ (a ++ b ++ c ++ d ++ e)

@@ -14,34 +14,34 @@ use Rattle.std.proofs.lemmas.Bool.{cases_Bool, cond-true, cond-false}
 use Rattle.std.specs.Str.{bytes_eq}
 use Rattle.ep_model.specs.declared.document.Document.{Document}
 use Rattle.ep_model.specs.World.{Doc}
-use Rattle.ep_model.specs.Plain.{doc_of, entry_of, docs_of}
+use Rattle.ep_model.specs.Plain.{document_data, entry_data, plain_docs}
 
 -- an entry of the hash map
-abbrev pub Entry : Type 0
-Entry = Vec ℕ Global × Document
+abbrev pub MapEntry : Type 0
+MapEntry = Vec ℕ Global × Document
 
 -- the document that a lookup by bytes finds
-abbrev pub looked_up : List Entry → List ℕ → Option Document
+abbrev pub looked_up : List MapEntry → List ℕ → Option Document
 looked_up es q = lookup (λ (k : Vec ℕ Global). bytes_eq q k.items) es
 
 -- only equal keys tie
 exact_keys : IsAntisymmetric (slice_cmp nat_cmp)
 exact_keys = slice_cmp-IsAntisymmetric nat_cmp-IsAntisymmetric
 
-chosen : (b : Bool) (x y : Option Document) → cond b (option_map doc_of x) (option_map doc_of y) ≡ option_map doc_of (cond b x y)
+chosen : (b : Bool) (x y : Option Document) → cond b (option_map document_data x) (option_map document_data y) ≡ option_map document_data (cond b x y)
 chosen true x y = refl
 chosen false x y = refl
 
-scanned : (es : List Entry) (q : List ℕ) → find (slice_cmp nat_cmp) q (map entry_of es) ≡ option_map doc_of (looked_up es q)
+scanned : (es : List MapEntry) (q : List ℕ) → find (slice_cmp nat_cmp) q (map entry_data es) ≡ option_map document_data (looked_up es q)
 scanned [] q = refl
 scanned (e ∷ es) q =
-    ap (λ b. cond b (Some (doc_of e.1)) (find (slice_cmp nat_cmp) q (map entry_of es))) (sym (texts_ties q e.0.items))
-    ∙ ap (λ o. cond (bytes_eq q e.0.items) (Some (doc_of e.1)) o) (scanned es q)
+    ap (λ b. cond b (Some (document_data e.1)) (find (slice_cmp nat_cmp) q (map entry_data es))) (sym (texts_ties q e.0.items))
+    ∙ ap (λ o. cond (bytes_eq q e.0.items) (Some (document_data e.1)) o) (scanned es q)
     ∙ chosen (bytes_eq q e.0.items) (Some e.1) (looked_up es q)
 
 -- what the map has under a key is what a lookup finds
-pub get-docs_of : (es : List Entry) (q : List ℕ) → get (docs_of es) q ≡ option_map doc_of (looked_up es q)
-get-docs_of es q = get-from_entries nat_list_cmp_total (map entry_of es) q ∙ scanned es q
+pub get-plain_docs : (es : List MapEntry) (q : List ℕ) → get (plain_docs es) q ≡ option_map document_data (looked_up es q)
+get-plain_docs es q = get-from_entries nat_list_cmp_total (map entry_data es) q ∙ scanned es q
 
 -- the test by which the hash map looks bytes up, and the one that tells its keys apart
 abbrev is_key : List ℕ → Vec ℕ Global → Bool
@@ -50,7 +50,7 @@ is_key bytes k = bytes_eq bytes k.items
 abbrev are_same : Vec ℕ Global → Vec ℕ Global → Bool
 are_same x y = bytes_eq x.items y.items
 
-others : (old new : List Entry) (test : Vec ℕ Global → Bool) → KeepsOthers are_same test old new → (other : Vec ℕ Global → Bool) → IsKeyTest are_same other → AreApart test other → lookup other new ≡ lookup other old
+others : (old new : List MapEntry) (test : Vec ℕ Global → Bool) → KeepsOthers are_same test old new → (other : Vec ℕ Global → Bool) → IsKeyTest are_same other → AreApart test other → lookup other new ≡ lookup other old
 unfolding KeepsOthers
 others old new test h = h
 
@@ -69,16 +69,16 @@ module _ {S : Type 0} where
       (cases_Bool (bytes_eq key q))
 
   -- to update the document of a key is to insert it
-  pub docs_of-put : (m n : HashMap (Vec ℕ Global) Document S) (key : List ℕ) (d : Document) → UpdatesBy are_same (is_key key) m n (Some d) → docs_of n.entries ≡ insert (docs_of m.entries) key (doc_of d)
-  docs_of-put m n key d h =
+  pub plain_docs-put : (m n : HashMap (Vec ℕ Global) Document S) (key : List ℕ) (d : Document) → UpdatesBy are_same (is_key key) m n (Some d) → plain_docs n.entries ≡ insert (plain_docs m.entries) key (document_data d)
+  plain_docs-put m n key d h =
       same_map nat_list_cmp_total exact_keys _ _ (λ q.
-      get-docs_of n.entries q ∙ ap (option_map doc_of) (found m n key (Some d) h q) ∙ sym (chosen (bytes_eq key q) (Some d) (looked_up m.entries q))
-      ∙ ap (λ b. cond b (Some (doc_of d)) (option_map doc_of (looked_up m.entries q))) (texts_ties key q ∙ (eq_by_cmp_equiv nat_list_cmp_total).symm key q)
-      ∙ sym (get-insert nat_list_cmp_total (docs_of m.entries) key (doc_of d) q ∙ ap (cond (eq_by_cmp (slice_cmp nat_cmp) q key) (Some (doc_of d))) (get-docs_of m.entries q)))
+      get-plain_docs n.entries q ∙ ap (option_map document_data) (found m n key (Some d) h q) ∙ sym (chosen (bytes_eq key q) (Some d) (looked_up m.entries q))
+      ∙ ap (λ b. cond b (Some (document_data d)) (option_map document_data (looked_up m.entries q))) (texts_ties key q ∙ (eq_by_cmp_equiv nat_list_cmp_total).symm key q)
+      ∙ sym (get-insert nat_list_cmp_total (plain_docs m.entries) key (document_data d) q ∙ ap (cond (eq_by_cmp (slice_cmp nat_cmp) q key) (Some (document_data d))) (get-plain_docs m.entries q)))
 
   -- the same under a copy of the key
-  pub docs_of-new : (m same n : HashMap (Vec ℕ Global) Document S) (key : List ℕ) (copy : Vec ℕ Global) (d : Document) → same ≡ m → copy.items ≡ key → UpdatesBy are_same (are_same copy) same n (Some d) → docs_of n.entries ≡ insert (docs_of m.entries) key (doc_of d)
-  docs_of-new m same n key copy d m-is key-is h =
-      docs_of-put same n copy.items d h
-      ∙ ap (λ k. insert (docs_of same.entries) k (doc_of d)) key-is
-      ∙ ap (λ (x : HashMap (Vec ℕ Global) Document S). insert (docs_of x.entries) key (doc_of d)) m-is
+  pub plain_docs-new : (m same n : HashMap (Vec ℕ Global) Document S) (key : List ℕ) (copy : Vec ℕ Global) (d : Document) → same ≡ m → copy.items ≡ key → UpdatesBy are_same (are_same copy) same n (Some d) → plain_docs n.entries ≡ insert (plain_docs m.entries) key (document_data d)
+  plain_docs-new m same n key copy d m-is key-is h =
+      plain_docs-put same n copy.items d h
+      ∙ ap (λ k. insert (plain_docs same.entries) k (document_data d)) key-is
+      ∙ ap (λ (x : HashMap (Vec ℕ Global) Document S). insert (plain_docs x.entries) key (document_data d)) m-is

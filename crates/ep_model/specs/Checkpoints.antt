@@ -7,14 +7,10 @@ use Rattle.ep_model.specs.declared.data.CheckpointsData.{CheckpointsData}
 use Rattle.ep_model.specs.declared.data.EventData.{EventData}
 use Rattle.ep_model.specs.declared.data.EventData.TheVariants.{Persisted}
 use Rattle.ep_model.specs.declared.data.FrontData.{FrontData}
-use Rattle.ep_model.specs.World.{Doc, World, doc_blocks}
+use Rattle.ep_model.specs.World.{Item, World, doc_blocks}
 use Rattle.ep_model.specs.History.{step}
 use Rattle.ep_model.specs.Mutations.{mutation_of, above}
 use Rattle.ep_model.specs.Front.{begun, world_of}
-
--- a document under its key, as it is queued
-abbrev pub Item : Type 0
-Item = List ℕ × Doc
 
 -- items of different keys, the oldest first
 abbrev pub Checkpoint : Type 0

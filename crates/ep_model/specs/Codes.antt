@@ -6,16 +6,18 @@ use Rattle.ep_model.specs.declared.call.VbState.{VbState}
 use Rattle.ep_model.specs.declared.call.VbState.TheVariants.{Active, Replica, Pending, Dead}
 use Rattle.ep_model.specs.declared.config.Eviction.{Eviction}
 use Rattle.ep_model.specs.declared.config.Eviction.TheVariants.{Value, Full}
-use Rattle.ep_model.specs.World.{Doc, Docs, World}
+use Rattle.ep_model.specs.World.{Doc, Docs, World, blank_doc}
 
-abbrev coded_key : Coded (List ℕ)
+-- a key
+abbrev pub coded_key : Coded (List ℕ)
 coded_key = coded_list coded_ℕ
 
-abbrev coded_doc : Coded Doc
+-- what is stored of a document
+abbrev pub coded_doc : Coded Doc
 coded_doc = code_by (List ℕ × (ℕ × (ℕ × (ℕ × (ℕ × Bool)))))
     (coded× coded_key (coded× coded_ℕ (coded× coded_ℕ (coded× coded_ℕ (coded× coded_ℕ coded_bool)))))
     (λ d. (d.value, (d.flags, (d.expiry, (d.cas, (d.seqno, d.deleted))))))
-    (λ t. record { value = t.0; flags = t.1.0; expiry = t.1.1.0; cas = t.1.1.1.0; seqno = t.1.1.1.1.0; deleted = t.1.1.1.1.1 })
+    (λ t. record blank_doc { value = t.0; flags = t.1.0; expiry = t.1.1.0; cas = t.1.1.1.0; seqno = t.1.1.1.1.0; deleted = t.1.1.1.1.1 })
     (λ _. refl)
 
 abbrev state_number : VbState → Bool × Bool

@@ -7,6 +7,10 @@ use Rattle.ep_model.specs.declared.config.Field.TheVariants.{Vbuckets, Stripes, 
 abbrev pub is_outside : ℕ → ℕ → ℕ → Bool
 is_outside number least most = nat_lt number least || nat_lt most number
 
+-- how many blocks a whole bucket has at most
+abbrev pub max_blocks : ℕ
+max_blocks = 16777216
+
 -- the blocks of all vBuckets
 abbrev pub total_blocks : Config → ℕ
 total_blocks c = c.vbuckets * (c.stripes * c.blocks + c.ckpt_blocks)
@@ -16,10 +20,10 @@ abbrev pub config_fault : Config → Option Field
 config_fault c =
     if is_outside c.vbuckets 1 1024 then Some Vbuckets else
     if is_outside c.stripes 1 64 then Some Stripes else
-    if is_outside c.blocks 16 16777216 then Some Blocks else
-    if is_outside c.ckpt_blocks 16 16777216 then Some CkptBlocks else
+    if is_outside c.blocks 16 max_blocks then Some Blocks else
+    if is_outside c.ckpt_blocks 16 max_blocks then Some CkptBlocks else
     if is_outside c.ckpt_max 1 100000 then Some CkptMax else
-    if nat_lt 16777216 (total_blocks c) then Some Total else None
+    if nat_lt max_blocks (total_blocks c) then Some Total else None
 
 -- how many blocks a document may take: it has to fit a stripe and the checkpoints
 abbrev pub fit_of : Config → ℕ

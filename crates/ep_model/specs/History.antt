@@ -57,22 +57,22 @@ effect_of w (Called caller call now reply value) = call_effect w call now reply
 effect_of w (Expired key now) = Puts key (tombstone w now)
 effect_of w event = Nothing
 
--- and what it notes there besides
-abbrev pub noted : World → EventData → World
-noted w (Persisted number) = record w { persisted = number }
-noted w Opened = record w { opened = true }
-noted w event = w
+-- and how far it says that the vBucket is: what is stored, and that it is open
+abbrev pub advanced : World → EventData → World
+advanced w (Persisted number) = record w { persisted = number }
+advanced w Opened = record w { opened = true }
+advanced w event = w
 
 -- the world after one more event
 abbrev pub step : World → EventData → World
-step w event = noted (apply w (effect_of w event)) event
+step w event = advanced (apply w (effect_of w event)) event
 
 -- the world after a start and these events
 abbrev pub after : World → List EventData → World
 after start [] = start
 after start (event ∷ history) = after (step start event) history
 
--- the world at the mutation of this number, or the start where none is that far
+-- the first world whose greatest number is this one, or the last where none is
 abbrev pub upto : World → List EventData → ℕ → World
 upto w [] number = w
 upto w (event ∷ history) number = if w.high == number then w else upto (step w event) history number

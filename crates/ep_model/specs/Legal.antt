@@ -57,7 +57,7 @@ pub record WaitsAt (events : List EventData) (ticket : Ticket) (caller : ℕ) (c
   pub unused : AllByRecursion (IsUnused ticket) events
 
 -- A read for the ticket failed. That is legal only behind the event that asked at it, and no two ask at one ticket.
-pub record HasFailed (events : List EventData) (ticket : Ticket) (fault : ℕ) : Type 0 where
+pub record HasFailedRead (events : List EventData) (ticket : Ticket) (fault : ℕ) : Type 0 where
   pub before : List EventData
   pub later : List EventData
   pub failed : events ≡ before ++ ReadFailed ticket fault ∷ later
@@ -76,7 +76,7 @@ pub record IsStoreCause (f : FrontData) (ticket : Ticket) (caller : ℕ) (call :
   pub keyed : has_key call ≡ true
   pub waits : WaitsAt f.events ticket caller call
   pub fault : ℕ
-  pub failed : HasFailed f.events ticket fault
+  pub failed : HasFailedRead f.events ticket fault
 
 -- Memory was wanting at the read that this very call waited for.
 pub record IsMemoryCause (f : FrontData) (ticket : Ticket) (caller : ℕ) (call : CallData) : Type 0 where
@@ -146,7 +146,7 @@ pub record MayAsk (f : FrontData) (ticket : Ticket) (call : CallData) : Type 0 w
   pub above : AllByRecursion (IsBelow ticket) f.events
   pub away : (world_of f).told ≡ true → IsAway f.config.eviction (marked f ticket.stripe) (map.get (world_of f).docs key)
 
--- a failed read is told once, of a ticket that was asked
+-- a failed read is noted once, of a ticket that was asked
 pub record MayFail (f : FrontData) (ticket : Ticket) (fault : ℕ) : Type 0 where
   pub asked : HasAsked f.events ticket
   pub once : AllByRecursion (IsNoFault fault) f.events

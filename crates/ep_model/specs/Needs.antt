@@ -1,4 +1,4 @@
--- Whether a call needs the old document, and how many blocks it takes of memory.
+-- Whether a call needs the old document.
 use Rattle.std.specs.Prelude.{ℕ, Bool, true, false, not, ◌==◌, List, Option, Some, None}
 use Rattle.ep_model.specs.declared.call.StoreKind.{StoreKind}
 use Rattle.ep_model.specs.declared.call.StoreKind.TheVariants.{Set, Add, Replace}

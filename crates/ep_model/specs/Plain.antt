@@ -7,25 +7,26 @@ use Rattle.ep_model.specs.declared.call.Reply.{Reply}
 use Rattle.ep_model.specs.declared.data.OutData.{OutData}
 use Rattle.ep_model.specs.declared.document.Document.{Document}
 use Rattle.ep_model.specs.declared.memory.NoMemory.{NoMemory}
+use Rattle.ep_model.specs.Limits.{end_of_moments}
 use Rattle.ep_model.specs.World.{Doc, Docs, World, blank_doc, empty_world}
 use Rattle.ep_model.specs.Answer.{Answer, Nothing, apply}
 
 -- a document without where its bytes lie
-abbrev pub doc_of : Document → Doc
-doc_of d = record blank_doc { value = d.value.items; flags = d.flags; expiry = d.expiry; cas = d.cas; seqno = d.seqno; deleted = d.deleted }
+abbrev pub document_data : Document → Doc
+document_data d = record blank_doc { value = d.value.items; flags = d.flags; expiry = d.expiry; cas = d.cas; seqno = d.seqno; deleted = d.deleted }
 
 -- a document under its key
-abbrev pub entry_of : Vec ℕ Global × Document → List ℕ × Doc
-entry_of e = (e.0.items, doc_of e.1)
+abbrev pub entry_data : Vec ℕ Global × Document → List ℕ × Doc
+entry_data e = (e.0.items, document_data e.1)
 
 -- the documents by their keys
-abbrev pub docs_of : List (Vec ℕ Global × Document) → Docs
-docs_of entries = finmap.from_entries (map entry_of entries)
+abbrev pub plain_docs : List (Vec ℕ Global × Document) → Docs
+plain_docs entries = finmap.from_entries (map entry_data entries)
 
 -- the world of a vBucket that is open, without failovers and with nothing stored
-abbrev pub world_of : ℕ → ℕ → VbState → List (Vec ℕ Global × Document) → ℕ → ℕ → World
-world_of id fit state entries high maxcas = record (empty_world id fit) {
-  docs = docs_of entries;
+abbrev pub plain_world : ℕ → ℕ → VbState → List (Vec ℕ Global × Document) → ℕ → ℕ → World
+plain_world id fit state entries high maxcas = record (empty_world id fit) {
+  docs = plain_docs entries;
   high = high;
   maxcas = maxcas;
   state = state;
@@ -35,7 +36,7 @@ world_of id fit state entries high maxcas = record (empty_world id fit) {
 -- the numbers leave room for the next ones
 pub record IsSound (high maxcas : ℕ) : Type 0 where
   pub numbers : high < 2 ^ 48
-  pub stamps : maxcas ≤ 2 ^ 62 + high
+  pub stamps : maxcas ≤ end_of_moments + high
 
 -- the value of a document, or nothing
 abbrev pub value_of : Option Doc → List ℕ

@@ -7,12 +7,12 @@ use Rattle.ep_model.specs.declared.config.Eviction.TheVariants.{Value, Full}
 use Rattle.ep_model.specs.declared.data.CallData.{CallData}
 use Rattle.ep_model.specs.declared.data.FrontData.{FrontData}
 use Rattle.ep_model.specs.Stripes.{stripe_of}
-use Rattle.ep_model.specs.World.{Doc, Docs, World, blocks, doc_blocks}
+use Rattle.ep_model.specs.World.{Doc, Docs, Item, World, blocks, doc_blocks}
 use Rattle.ep_model.specs.Answer.{Effect, answer}
 use Rattle.ep_model.specs.Mutations.{put_by}
 use Rattle.ep_model.specs.Needs.{needs}
 use Rattle.ep_model.specs.Front.{world_of, marked}
-use Rattle.ep_model.specs.Checkpoints.{Item, queued, cut, items_above, item_blocks}
+use Rattle.ep_model.specs.Checkpoints.{queued, cut, items_above, item_blocks}
 
 -- what memory keeps of a stored document: under value eviction its key
 abbrev pub clean_blocks : Eviction → List ℕ → Doc → ℕ

@@ -42,7 +42,7 @@ not_supported = 0x83
 abbrev pub temporary_failure : ℕ
 temporary_failure = 0x86
 
--- What a caller is told of a refusal: that memory is wanting, or that it is for now.
+-- What a refused call is answered: that memory is wanting, or that it is refused for now.
 abbrev pub status_of : Cause → ℕ
 status_of causes.Quota = temporary_failure
 status_of causes.Warming = temporary_failure

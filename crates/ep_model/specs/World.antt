@@ -18,6 +18,10 @@ Doc = DocData
 abbrev pub Docs : Type 0
 Docs = FinMap (slice_cmp nat_cmp) Doc
 
+-- a document under its key
+abbrev pub Item : Type 0
+Item = List ℕ × Doc
+
 -- a document of which nothing is known yet
 abbrev pub blank_doc : Doc
 blank_doc = record { value = []; flags = 0; expiry = 0; cas = 0; seqno = 0; deleted = false }

@@ -28,11 +28,12 @@ pub struct Draft {
 
 impl Draft {
     ghost use Rattle.std.specs.Prelude.{◌≡◌};
-    ghost use Rattle.ep_model.specs.Plain.{doc_of};
+    ghost use Rattle.ep_model.specs.World.{blank_doc};
+    ghost use Rattle.ep_model.specs.Plain.{document_data};
 
     /// The document under these numbers.
     pub fn document(self, cas: u64, seqno: u64) -> Document
-        ensures { doc_of result ≡ record { value = self.value.items; flags = self.flags; expiry = self.expiry; cas = cas; seqno = seqno; deleted = self.deleted } }
+        ensures { document_data result ≡ record blank_doc { value = self.value.items; flags = self.flags; expiry = self.expiry; cas = cas; seqno = seqno; deleted = self.deleted } }
     {
         let Draft {
             value,

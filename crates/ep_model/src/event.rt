@@ -26,7 +26,7 @@ impl Cause {
     ghost use Rattle.std.specs.Prelude.{◌≡◌};
     ghost use Rattle.ep_model.specs.Statuses.{status_of};
 
-    /// The status by which a caller is told of the refusal: that memory is wanting, or else that it is for now.
+    /// The status that answers the refused call: that memory is wanting, or else that it is refused for now.
     pub fn status(self) -> u16
         ensures { result ≡ status_of self }
     {

@@ -2,6 +2,7 @@
 //! `specs/` the definitions of a vBucket's world, of the answer to a call and of a legal history.
 #![tactic(auto)]
 
+mod bytes;
 mod call;
 mod config;
 mod data;
@@ -17,6 +18,7 @@ pub mod rules;
 pub mod status;
 mod stripes;
 
+pub use bytes::{Bytes, Text};
 pub use call::{Call, Meta, Reply, StoreKind, VbState};
 pub use config::{Config, Eviction, Field, OpenFault};
 pub use data::{

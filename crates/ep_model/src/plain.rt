@@ -10,12 +10,14 @@ ghost use Rattle.std.specs.Prelude.{◌≡◌, ◌≢◌, ◌+◌, ◌≤◌, �
 ghost use Rattle.std.specs.FinMap as finmap;
 ghost use Rattle.std.specs.Option.{option_map, option_copied};
 ghost use Rattle.ep_model.specs.World.{empty_world, live, next_doc};
-ghost use Rattle.ep_model.specs.Limits.{IsWithin, max_value};
+ghost use Rattle.ep_model.specs.Limits.{IsMoment, IsWithin, max_value};
+ghost use Rattle.ep_model.specs.Config.{max_blocks};
 ghost use Rattle.ep_model.specs.Refusals.{number_refusal};
 ghost use Rattle.ep_model.specs.Answer.{Nothing, answer, answer_row, apply, cas_of, put_success};
 ghost use Rattle.ep_model.specs.History.{call_data};
-ghost use Rattle.ep_model.specs.Plain.{Does, Serves, doc_of, value_of};
+ghost use Rattle.ep_model.specs.Plain.{Does, Serves, document_data, value_of};
 
+use crate::config::MAX_BLOCKS;
 use crate::document::{Document, Draft};
 use crate::limits::MAX_VALUE;
 use crate::{Call, NoMemory, Out, Reply, VbState, decimal, rules, status};
@@ -23,9 +25,6 @@ use documents::{Documents, document_of, live_of, put_document};
 use std::alloc::Global;
 use std::collections::HashMap;
 use std::marker::Model;
-
-/// How many blocks a document may take at most.
-const FIT: u32 = 16_777_216;
 
 /// The plain map of one vBucket that is open, under value eviction, with an empty failover table and nothing
 /// stored. A call looks its key up in a hash map at most three times, and copies a key only where it stores the first
@@ -45,26 +44,26 @@ pub struct Plain {
 impl Model for Plain {
     ghost use Rattle.ep_model.specs.World.{World};
     ghost use Rattle.ep_model.specs.Codes.{coded_world};
-    ghost use Rattle.ep_model.specs.Plain.{world_of, IsSound};
+    ghost use Rattle.ep_model.specs.Plain.{plain_world, IsSound};
 
     ghost Value = { World };
 
     ghost coded = { coded_world };
 
-    ghost view = { λ p. world_of p.id p.fit p.state p.documents.entries p.high p.maxcas };
+    ghost view = { λ p. plain_world p.id p.fit p.state p.documents.entries p.high p.maxcas };
 
     ghost invariant = { λ p. IsSound p.high p.maxcas };
 }
 
 impl Plain {
-    /// The vBucket 0, active and with no document yet.
+    /// The vBucket 0, active and with no document yet. A document may take all blocks of the greatest bucket.
     pub fn new(alloc: Global) -> Plain
-        ensures { result ≡ record (empty_world 0 FIT) { opened = true } }
+        ensures { result ≡ record (empty_world 0 max_blocks) { opened = true } }
     {
         Plain {
             alloc,
             id: 0,
-            fit: FIT,
+            fit: MAX_BLOCKS,
             state: VbState::Active,
             documents: HashMap::new(alloc),
             high: 0,
@@ -74,7 +73,7 @@ impl Plain {
 
     /// Answers a call at a moment in nanoseconds since 1970, and appends the answer's value.
     pub fn answer(&mut self, call: &Call, now: u64, value: &mut Out) -> Result<Reply, NoMemory>
-        requires moment { now < 2 ^ 62 }
+        requires moment { IsMoment now }
         requires within { IsWithin (call_data call.now) }
         requires spare { max_value ≤ value.old.spare }
 
@@ -95,7 +94,7 @@ impl Plain {
 
     /// Answers a call that the vBucket's state allows.
     fn answer_row(&mut self, call: &Call, now: u64, value: &mut Out) -> Result<Reply, NoMemory>
-        requires moment { now < 2 ^ 62 }
+        requires moment { IsMoment now }
         requires within { IsWithin (call_data call.now) }
         requires spare { max_value ≤ value.old.spare }
         ensures { Serves (answer_row self.old (call_data call.now) now) self.old self.new value.old value.new result }
@@ -159,7 +158,7 @@ impl Plain {
 
     /// The live document of a key.
     fn live(&self, key: &[u8], now: u64) -> Option<&Document>
-        ensures { option_map doc_of (option_copied result) ≡ live self.now key.now now }
+        ensures { option_map document_data (option_copied result) ≡ live self.now key.now now }
     {
         live_of(document_of(&self.documents, key), now)
     }
@@ -199,7 +198,7 @@ impl Plain {
 
     /// Puts a document under the next numbers over the one of its key, and replies with these flags.
     fn put(&mut self, key: &[u8], draft: Draft, flags: u32, now: u64) -> Result<Reply, NoMemory>
-        requires moment { now < 2 ^ 62 }
+        requires moment { IsMoment now }
         requires room { number_refusal self.old.high ≡ None }
         ensures { Does (put_success self.old key.now (next_doc self.old draft.value.items draft.flags draft.expiry draft.deleted now) flags []) self.old self.new result }
     {

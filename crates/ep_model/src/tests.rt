@@ -3,6 +3,7 @@ ghost use Rattle.std.specs.Prelude.{◌<◌, ◌^◌};
 ghost use Rattle.ep_model.specs.History.{call_data};
 ghost use Rattle.ep_model.specs.Limits.{IsKey, IsValue, IsWithin};
 
+mod bytes;
 mod layout;
 
 use crate::limits::MAX_VALUE;

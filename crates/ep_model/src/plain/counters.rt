@@ -3,7 +3,7 @@ ghost use Rattle.std.specs.Prelude.{◌≡◌, ◌<◌, ◌≤◌, ◌^◌, deci
 ghost use Rattle.ep_model.specs.World.{live};
 ghost use Rattle.ep_model.specs.Answer.{answer_count, counts};
 ghost use Rattle.ep_model.specs.Plain.{Serves};
-ghost use Rattle.ep_model.specs.Limits.{max_value};
+ghost use Rattle.ep_model.specs.Limits.{IsMoment, max_value};
 
 use super::Plain;
 use crate::document::Draft;
@@ -21,7 +21,7 @@ impl Plain {
         now: u64,
         value: &mut Out,
     ) -> Result<Reply, NoMemory>
-        requires moment { now < 2 ^ 62 }
+        requires moment { IsMoment now }
         requires spare { max_value ≤ value.old.spare }
         ensures { Serves (answer_count down self.old key.now delta initial expiration cas now (live self.old key.now now)) self.old self.new value.old value.new result }
     {
@@ -54,7 +54,7 @@ impl Plain {
         now: u64,
         value: &mut Out,
     ) -> Result<Reply, NoMemory>
-        requires moment { now < 2 ^ 62 }
+        requires moment { IsMoment now }
         requires spare { max_value ≤ value.old.spare }
         ensures { Serves (counts self.old key.now number flags expiry now) self.old self.new value.old value.new result }
     {

@@ -4,8 +4,8 @@ ghost use Rattle.std.specs.FinMap as finmap;
 ghost use Rattle.ep_model.specs.World.{live, next_doc};
 ghost use Rattle.ep_model.specs.Refusals.{number_refusal};
 ghost use Rattle.ep_model.specs.Answer.{answer_get, answer_touch, put_success, shown_flags, shown_value, shows};
-ghost use Rattle.ep_model.specs.Plain.{Serves, doc_of, value_of};
-ghost use Rattle.ep_model.specs.Limits.{max_value};
+ghost use Rattle.ep_model.specs.Plain.{Serves, document_data, value_of};
+ghost use Rattle.ep_model.specs.Limits.{IsMoment, max_value};
 
 use super::Plain;
 use crate::document::{Document, Draft};
@@ -33,7 +33,7 @@ impl Plain {
         now: u64,
         value: &mut Out,
     ) -> Result<Reply, NoMemory>
-        requires moment { now < 2 ^ 62 }
+        requires moment { IsMoment now }
         requires spare { max_value ≤ value.old.spare }
         ensures { Serves (answer_touch fetch self.old key.now expiration now (live self.old key.now now)) self.old self.new value.old value.new result }
     {
@@ -64,7 +64,7 @@ impl Plain {
 
 /// The flags that a call shows: those of the document where its value is fetched.
 fn flags_shown(document: &Document, fetch: bool) -> u32
-    ensures { result ≡ shown_flags fetch (doc_of document.now) }
+    ensures { result ≡ shown_flags fetch (document_data document.now) }
 {
     if fetch { document.flags } else { 0 }
 }
@@ -72,8 +72,8 @@ fn flags_shown(document: &Document, fetch: bool) -> u32
 /// Replies with a document as it stands, and appends its value where that is fetched.
 fn show(document: &Document, fetch: bool, value: &mut Out) -> Reply
     requires { max_value ≤ value.old.spare }
-    ensures reply { result ≡ (shows document.now.cas (shown_flags fetch (doc_of document.now)) []).reply }
-    ensures value { value.new.bytes ≡ value.old.bytes ++ shown_value fetch (doc_of document.now) }
+    ensures reply { result ≡ (shows document.now.cas (shown_flags fetch (document_data document.now)) []).reply }
+    ensures value { value.new.bytes ≡ value.old.bytes ++ shown_value fetch (document_data document.now) }
     ensures room { value.new.spare + length value.new.bytes ≡ value.old.spare + length value.old.bytes }
 {
     if fetch {

@@ -2,7 +2,7 @@
 ghost use Rattle.std.specs.Prelude.{◌≡◌, ◌<◌, ◌^◌, ◌++◌, length, IfOk};
 ghost use Rattle.std.specs.Option.{option_or};
 ghost use Rattle.ep_model.specs.World.{live};
-ghost use Rattle.ep_model.specs.Limits.{IsValue};
+ghost use Rattle.ep_model.specs.Limits.{IsMoment, IsValue};
 ghost use Rattle.ep_model.specs.Refusals.{size_refusal, store_refusal, number_refusal, wanted_refusal};
 ghost use Rattle.ep_model.specs.Answer.{answer_store, answer_delete, answer_join, cas_of, joined};
 ghost use Rattle.ep_model.specs.Plain.{Does};
@@ -22,7 +22,7 @@ impl Plain {
         cas: u64,
         now: u64,
     ) -> Result<Reply, NoMemory>
-        requires moment { now < 2 ^ 62 }
+        requires moment { IsMoment now }
         requires within { IsValue value.now }
         ensures { Does (answer_store kind self.old key.now value.now flags expiration cas now) self.old self.new result }
     {
@@ -43,7 +43,7 @@ impl Plain {
     }
 
     pub(super) fn delete(&mut self, key: &[u8], cas: u64, now: u64) -> Result<Reply, NoMemory>
-        requires moment { now < 2 ^ 62 }
+        requires moment { IsMoment now }
         ensures { Does (answer_delete self.old key.now cas now) self.old self.new result }
     {
         let refused = rules::wanted_refusal(cas, self.live_cas(key, now)).or(self.number_refusal());
@@ -67,7 +67,7 @@ impl Plain {
         cas: u64,
         now: u64,
     ) -> Result<Reply, NoMemory>
-        requires moment { now < 2 ^ 62 }
+        requires moment { IsMoment now }
         requires within { IsValue piece.now }
         ensures { Does (answer_join front self.old key.now piece.now cas now (live self.old key.now now)) self.old self.new result }
     {

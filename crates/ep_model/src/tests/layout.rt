@@ -68,7 +68,7 @@ fn each_field_has_its_limits(rt: HostRuntime) {
 }
 
 #[test]
-fn the_first_fault_is_told(rt: HostRuntime) {
+fn the_first_fault_is_answered(rt: HostRuntime) {
     expect(&rt, (0, 0), (0, 0, 0), Some(Field::Vbuckets));
     expect(&rt, (1, 0), (0, 0, 0), Some(Field::Stripes));
     expect(&rt, (1, 1), (0, 0, 0), Some(Field::Blocks));
