@@ -11,17 +11,17 @@ use Rattle.std.proofs.lemmas.Slice.Eq.{bytes_eq-Decides}
 use Rattle.std.specs.FinMap as finmap
 use Rattle.std.specs.FinMap.{IsAntisymmetric, get, from_sorted, entries_sorted, entries-from_sorted, entries-insert, get-entries, get-retain_keys, get-from_sorted, get-from_entries, same_map, slice_cmp-IsAntisymmetric, nat_cmp-IsAntisymmetric, is_sorted, find, put, len-entries, len-empty}
 use Rattle.std.specs.FinMap.Entries.{by_order, where_key, find-where_key, is_sorted-where_key}
-use Rattle.ep_model.specs.World.{Doc, Docs, World}
+use Rattle.ep_model.specs.World.{Doc, Docs, World, Item}
 use Rattle.ep_model.specs.declared.config.Eviction.{Eviction}
 use Rattle.ep_model.specs.World.{doc_blocks}
 use Rattle.ep_model.specs.Mutations.{above}
-use Rattle.ep_model.specs.Checkpoints.{Item, has_item, but_item, all_items, item_blocks}
-use Rattle.plain_tally.specs.declared.item.Item.{Item as Held}
+use Rattle.ep_model.specs.Checkpoints.{has_item, but_item, all_items, item_blocks}
+use Rattle.plain_tally.specs.declared.item.PlainItem.{PlainItem}
 use Rattle.ep_model.specs.declared.data.CheckpointData.{CheckpointData}
 use Rattle.ep_model.specs.declared.data.CheckpointsData.{CheckpointsData}
 use Rattle.plain_tally.specs.declared.checkpoints.PlainCheckpoint.{PlainCheckpoint}
 use Rattle.std.proofs.lemmas.List.Elements.{filter-append}
-use Rattle.plain_tally.specs.Items.{checkpoint_data, checkpoints_data, item_data, items_data, pinned_cost, kept_cost}
+use Rattle.plain_tally.specs.Items.{checkpoint_data, checkpoints_data, item_data, items_data, pinned_cost, kept_cost, other_cost}
 use Rattle.ep_model.specs.Quota.{is_other, pinned_blocks, pinned_sum, pinned}
 use Rattle.plain_tally.specs.Laws.{are_distinct, PinnedOfList}
 use Rattle.std.proofs.lemmas.List.{take_all}
@@ -148,43 +148,43 @@ pinned_of_list w entries stripe mark key distinct docs =
 pub summed-all : {X : Type 0} (f : X → ℕ) (xs : List X) (n total : ℕ) → length xs ≤ n → total ≡ min (sum_by f (take n xs)) (2 ^ 64 - 1) → total ≡ min (sum_by f xs) (2 ^ 64 - 1)
 summed-all f xs n total all sums = sums ∙ ap (λ ys. min (sum_by f ys) (2 ^ 64 - 1)) (take_all n xs all)
 
-pub pinned-summed : (items : List Held) (eviction : Eviction) (stripes stripe mark : ℕ) (key : List ℕ) → sum_by (pinned_cost eviction stripes stripe mark key) items ≡ pinned_sum eviction mark (filter (λ (entry : Item). is_other stripes stripe key entry.0) (items_data items))
+pub pinned-summed : (items : List PlainItem) (eviction : Eviction) (stripes stripe mark : ℕ) (key : List ℕ) → sum_by (pinned_cost eviction stripes stripe mark key) items ≡ pinned_sum eviction mark (filter (λ (entry : Item). is_other stripes stripe key entry.0) (items_data items))
 pinned-summed items eviction stripes stripe mark key = sym (
     sum_by-filter (λ (entry : Item). pinned_blocks eviction mark entry.0 entry.1) (λ (entry : Item). is_other stripes stripe key entry.0) (items_data items)
     ∙ sum_by-map (λ (entry : Item). cond (is_other stripes stripe key entry.0) (pinned_blocks eviction mark entry.0 entry.1) 0) item_data items)
 
-pub kept-summed : (items : List Held) (number : ℕ) → sum_by (kept_cost number) items ≡ item_blocks (above number (items_data items))
+pub kept-summed : (items : List PlainItem) (number : ℕ) → sum_by (kept_cost number) items ≡ item_blocks (above number (items_data items))
 kept-summed items number = sym (
     sum_by-filter (λ (entry : Item). doc_blocks entry.0 entry.1) (λ (entry : Item). nat_lt number entry.1.seqno) (items_data items)
     ∙ sum_by-map (λ (entry : Item). cond (nat_lt number entry.1.seqno) (doc_blocks entry.0 entry.1) 0) item_data items)
 
 -- a scan finds a key where it is
-pub has-position : (items : List Held) (key : List ℕ) (n : ℕ) → is_some (position_from (λ (item : Held). bytes_eq item.key.items key) n items) ≡ has_item key (items_data items)
+pub has-position : (items : List PlainItem) (key : List ℕ) (n : ℕ) → is_some (position_from (λ (item : PlainItem). bytes_eq item.key.items key) n items) ≡ has_item key (items_data items)
 has-position [] key n = refl
 has-position (item ∷ items) key n =
-    elim (bytes_eq item.key.items key) as (λ b. is_some (cond b (Some n) (position_from (λ (item : Held). bytes_eq item.key.items key) (n + 1) items)) ≡ (b || has_item key (items_data items))) [
+    elim (bytes_eq item.key.items key) as (λ b. is_some (cond b (Some n) (position_from (λ (item : PlainItem). bytes_eq item.key.items key) (n + 1) items)) ≡ (b || has_item key (items_data items))) [
       | true ↦ refl
       | false ↦ has-position items key (n + 1)
     ]
 
 -- what is left without a key
-pub forget-kept : (items new : List Held) (key : List ℕ) → new ≡ filter (λ (item : Held). not (bytes_eq item.key.items key)) items → items_data new ≡ but_item key (items_data items)
+pub forget-kept : (items new : List PlainItem) (key : List ℕ) → new ≡ filter (λ (item : PlainItem). not (bytes_eq item.key.items key)) items → items_data new ≡ but_item key (items_data items)
 forget-kept items new key is = ap items_data is ∙ at items
   where
-    at : (items : List Held) → items_data (filter (λ (item : Held). not (bytes_eq item.key.items key)) items) ≡ but_item key (items_data items)
+    at : (items : List PlainItem) → items_data (filter (λ (item : PlainItem). not (bytes_eq item.key.items key)) items) ≡ but_item key (items_data items)
     at [] = refl
     at (item ∷ items) =
-        elim (bytes_eq item.key.items key) as (λ b. items_data (cond (not b) (item ∷ filter (λ (item : Held). not (bytes_eq item.key.items key)) items) (filter (λ (item : Held). not (bytes_eq item.key.items key)) items)) ≡ cond (not b) (item_data item ∷ but_item key (items_data items)) (but_item key (items_data items))) [
+        elim (bytes_eq item.key.items key) as (λ b. items_data (cond (not b) (item ∷ filter (λ (item : PlainItem). not (bytes_eq item.key.items key)) items) (filter (λ (item : PlainItem). not (bytes_eq item.key.items key)) items)) ≡ cond (not b) (item_data item ∷ but_item key (items_data items)) (but_item key (items_data items))) [
           | true ↦ at items
           | false ↦ ap (λ (l : List Item). item_data item ∷ l) (at items)
         ]
 
 -- the items of one checkpoint more
-all-append : (xs ys : List CheckpointData) → all_items (xs ++ ys) ≡ all_items xs ++ all_items ys
+pub all-append : (xs ys : List CheckpointData) → all_items (xs ++ ys) ≡ all_items xs ++ all_items ys
 all-append [] ys = refl
 all-append (x ∷ xs) ys = ap (λ (l : List Item). x.items ++ l) (all-append xs ys) ∙ sym (append_assoc x.items (all_items xs) (all_items ys))
 
-blocks-append : (xs ys : List Item) (number : ℕ) → item_blocks (above number (xs ++ ys)) ≡ item_blocks (above number xs) + item_blocks (above number ys)
+pub blocks-append : (xs ys : List Item) (number : ℕ) → item_blocks (above number (xs ++ ys)) ≡ item_blocks (above number xs) + item_blocks (above number ys)
 blocks-append xs ys number =
     ap (λ (l : List Item). item_blocks l) (filter-append (λ (entry : Item). nat_lt number entry.1.seqno) xs ys)
     ∙ sum_by-append (λ (entry : Item). doc_blocks entry.0 entry.1) (above number xs) (above number ys)
@@ -197,19 +197,26 @@ map_take_more (c ∷ closed) here (suc i) within at =
     ap (λ k. take k (checkpoint_data c ∷ map checkpoint_data closed)) n
     ∙ ap (λ (l : List CheckpointData). checkpoint_data c ∷ l) (map_take_more closed here i (omega arith) at)
 
-pub kept-more : (view : CheckpointsData) (closed : List PlainCheckpoint) (last here : PlainCheckpoint) (i number total cost new : ℕ) → checkpoints_data closed last ≡ view → i < length closed → here ≡ get_or closed i here
+-- one closed checkpoint more is counted before the rest
+pub kept-more : (view : CheckpointsData) (closed : List PlainCheckpoint) (last here : PlainCheckpoint) (rest : List Item) (i number total cost new : ℕ) → checkpoints_data closed last ≡ view → i < length closed → here ≡ get_or closed i here
     → cost ≡ min (item_blocks (above number (items_data here.items.items))) (2 ^ 64 - 1) → new ≡ min (total + cost) (2 ^ 64 - 1)
-    → total ≡ min (item_blocks (above number (all_items (take i view.closed) ++ view.last.items))) (2 ^ 64 - 1)
-    → new ≡ min (item_blocks (above number (all_items (take (i + 1) view.closed) ++ view.last.items))) (2 ^ 64 - 1)
-kept-more view closed last here i number total cost new is within at costs adds sums =
+    → total ≡ min (item_blocks (above number (all_items (take i view.closed) ++ rest))) (2 ^ 64 - 1)
+    → new ≡ min (item_blocks (above number (all_items (take (i + 1) view.closed) ++ rest))) (2 ^ 64 - 1)
+kept-more view closed last here rest i number total cost new is within at costs adds sums =
     let more : take (i + 1) view.closed ≡ take i view.closed ++ checkpoint_data here ∷ [] =
     ap (λ (v : CheckpointsData). take (i + 1) v.closed) (sym is)
     ∙ map_take_more closed here i within at
     ∙ ap (λ (v : CheckpointsData). take i v.closed ++ checkpoint_data here ∷ []) is in
     let all : all_items (take (i + 1) view.closed) ≡ all_items (take i view.closed) ++ items_data here.items.items =
     ap all_items more ∙ all-append (take i view.closed) (checkpoint_data here ∷ []) ∙ ap (λ (l : List Item). all_items (take i view.closed) ++ l) (append-nil (items_data here.items.items)) in
-    let a = ap (λ (l : List Item). item_blocks (above number (l ++ view.last.items))) all in
-    let b = blocks-append (all_items (take i view.closed) ++ items_data here.items.items) view.last.items number in
+    let a = ap (λ (l : List Item). item_blocks (above number (l ++ rest))) all in
+    let b = blocks-append (all_items (take i view.closed) ++ items_data here.items.items) rest number in
     let c = blocks-append (all_items (take i view.closed)) (items_data here.items.items) number in
-    let d = blocks-append (all_items (take i view.closed)) view.last.items number in
+    let d = blocks-append (all_items (take i view.closed)) rest number in
     omega arith
+
+pub others-summed : (items : List PlainItem) (number : ℕ) (key : List ℕ) → sum_by (other_cost number key) items ≡ item_blocks (above number (but_item key (items_data items)))
+others-summed items number key = sym (
+    sum_by-filter (λ (entry : Item). doc_blocks entry.0 entry.1) (λ (entry : Item). nat_lt number entry.1.seqno) (but_item key (items_data items))
+    ∙ sum_by-filter (λ (entry : Item). cond (nat_lt number entry.1.seqno) (doc_blocks entry.0 entry.1) 0) (λ (entry : Item). not (bytes_eq entry.0 key)) (items_data items)
+    ∙ sum_by-map (λ (entry : Item). cond (not (bytes_eq entry.0 key)) (cond (nat_lt number entry.1.seqno) (doc_blocks entry.0 entry.1) 0) 0) item_data items)

@@ -1,8 +1,8 @@
 -- Laws of what is counted.
 use Rattle.std.specs.Prelude.{◌≡◌, ℕ, ◌&&◌, Bool, true, not, List, [], ◌∷◌, filter}
 use Rattle.std.specs.FinMap as finmap
-use Rattle.ep_model.specs.World.{World}
-use Rattle.ep_model.specs.Checkpoints.{Item, has_item}
+use Rattle.ep_model.specs.World.{World, Item}
+use Rattle.ep_model.specs.Checkpoints.{has_item}
 use Rattle.ep_model.specs.Quota.{is_other, pinned_sum, pinned}
 
 -- no two have one key

@@ -4,18 +4,21 @@ ghost use Rattle.ep_model.specs.Limits.{IsKey, IsValue};
 use ep_model::{Eviction, NoMemory, rules};
 use std::alloc::Global;
 
-/// A document under its key, by what the quota counts of it.
+/// A document under its key. `expiry` is 0 or seconds since 1970.
 #[derive(Drop)]
-pub struct Item {
+pub struct PlainItem {
     pub key: Vec<u8>,
     pub value: Vec<u8>,
+    pub flags: u32,
+    pub expiry: u32,
+    pub cas: u64,
     pub seqno: u64,
     pub deleted: bool,
     ghost keyed: { IsKey key.items },
     ghost fits: { IsValue value.items },
 }
 
-impl Item {
+impl PlainItem {
     ghost use Rattle.std.specs.Prelude.{◌≡◌, IfOk};
     ghost use Rattle.ep_model.specs.Limits.{IsKey, IsValue};
     ghost use Rattle.ep_model.specs.World.{blank_doc, doc_blocks};
@@ -23,17 +26,40 @@ impl Item {
     ghost use Rattle.plain_tally.specs.Items.{item_data};
 
     /// A document of these bytes that isn't deleted. Its cost is linear in them, which it copies.
-    pub fn copied(alloc: Global, key: &[u8], value: &[u8], seqno: u64) -> Result<Item, NoMemory>
+    pub fn copied(
+        alloc: Global,
+        key: &[u8],
+        value: &[u8],
+        seqno: u64,
+    ) -> Result<PlainItem, NoMemory>
         requires key { IsKey key.now }
         requires value { IsValue value.now }
         ensures { IfOk result (λ item. item_data item
             ≡ (key.now, record blank_doc { value = value.now; seqno = seqno })) }
     {
-        Ok(Item {
+        Ok(PlainItem {
             key: key.to_vec(alloc)?,
             value: value.to_vec(alloc)?,
+            flags: 0,
+            expiry: 0,
+            cas: 0,
             seqno,
             deleted: false,
+        })
+    }
+
+    /// The same document. Its cost is linear in the lengths of key and value, which it copies.
+    pub fn copy(&self, alloc: Global) -> Result<PlainItem, NoMemory>
+        ensures { IfOk result (λ item. item_data item ≡ item_data self.now) }
+    {
+        Ok(PlainItem {
+            key: self.key.to_vec(alloc)?,
+            value: self.value.to_vec(alloc)?,
+            flags: self.flags,
+            expiry: self.expiry,
+            cas: self.cas,
+            seqno: self.seqno,
+            deleted: self.deleted,
         })
     }
 

@@ -6,10 +6,13 @@ mod checkpoints;
 mod documents;
 mod item;
 pub mod laws;
+mod puts;
+mod world;
 
 pub use checkpoints::PlainCheckpoints;
 pub use documents::pinned;
-pub use item::Item;
+pub use item::PlainItem;
+pub use world::{PlainWorld, needs};
 
 #[cfg(test)]
 mod tests;

@@ -2,7 +2,9 @@
 ghost use Rattle.std.specs.Prelude.{◌≡◌, length, IfOk};
 ghost use Rattle.ep_model.specs.Limits.{IsKey};
 
-use crate::{Item, PlainCheckpoints, pinned};
+mod rooms;
+
+use crate::{PlainCheckpoints, PlainItem, pinned};
 use ep_model::{Eviction, NoMemory};
 use std::alloc::Global;
 use std::process::Abort;
@@ -22,12 +24,12 @@ fn item(
     key: &[u8],
     len: usize,
     seqno: u64,
-) -> Result<Item, NoMemory>
+) -> Result<PlainItem, NoMemory>
     requires { IsKey key.now }
 {
     let value = vec![in alloc; 0u8; len]?;
     assert!(rt; value.len() <= 1_048_576);
-    Item::copied(alloc, key, &value, seqno)
+    PlainItem::copied(alloc, key, &value, seqno)
 }
 
 /// Queues a mutation with a value of so many bytes where a checkpoint has two keys at most. The open one's id is then
