@@ -36,6 +36,8 @@ impl Model for Cursors {
 }
 
 impl Default for Cursors {
+    ghost is_default = { λ c. c ≡ [] };
+
     fn default() -> Self {
         Cursors::new()
     }

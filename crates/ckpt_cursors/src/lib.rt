@@ -4,6 +4,3 @@
 mod cursors;
 
 pub use cursors::{CursorFault, Cursors, MAX_CURSORS};
-
-#[cfg(test)]
-mod tests;

@@ -10,6 +10,3 @@ mod search;
 pub use data::{ItemData, ItemsData};
 pub use items::Items;
 pub use value_pool::Short;
-
-#[cfg(test)]
-mod tests;

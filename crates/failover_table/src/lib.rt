@@ -4,6 +4,3 @@
 mod table;
 
 pub use table::{Failovers, MAX_ENTRIES};
-
-#[cfg(test)]
-mod tests;

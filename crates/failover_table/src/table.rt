@@ -26,6 +26,8 @@ impl Model for Failovers {
 }
 
 impl Default for Failovers {
+    ghost is_default = { λ t. t ≡ [] };
+
     fn default() -> Self {
         Failovers::new()
     }

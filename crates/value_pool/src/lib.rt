@@ -10,6 +10,3 @@ pub use memory::PoolNoMemory;
 pub use pieces::Pieces;
 pub use pool::{Chain, Pool, Short};
 pub use region::blocks;
-
-#[cfg(test)]
-mod tests;

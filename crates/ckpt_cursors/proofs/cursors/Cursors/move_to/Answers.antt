@@ -30,3 +30,6 @@ returns-clause-after c =
     c.push.ensures.items ∙ ap (λ (cs : Positions). cs ++ (c.args.name, c.args.at) ∷ [])
     (kept c.args.self.now c.self.inside.named.items c.retain.new.self.items c.args.name c.self.view_is
     (filter-from_retain _ _ _ (λ x b f' y called. search rules) _ _ c.retain.ensures.filtered))
+
+pub returns-then-is_none-clause-moved : goal.returns-then-is_none-clause-moved
+returns-then-is_none-clause-moved c = search rules

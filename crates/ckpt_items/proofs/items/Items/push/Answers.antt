@@ -22,7 +22,7 @@ push_back_reserved-requires c =
 pub invariant_of-self : goal.invariant_of-self
 invariant_of-self c =
     let P : List Item → Type 0 = λ ys. IsStored c.put-value.new.pool ys c.self.inside.closed (deque_capacity c.push_back_reserved.new.self) in
-    subst P (sym c.push_back_reserved.ensures.items)
+    subst P (sym {A = List Item} c.push_back_reserved.ensures.items)
     (pushed_stored c.self.inside.pool c.put-key.new.pool c.put-value.new.pool c.self.inside.items.items c.self.inside.closed _ _ c.args.self.now (record { key = c.put-key.result; value = c.put-value.result; meta = c.args.meta }) c.args.key.now c.args.value.now c.self.invariant c.self.view_is c.put-key.ensures c.put-value.ensures c.requires.key c.requires.value c.requires.len c.requires.above c.push_back_reserved.ensures.capacity)
 
 pub returns-clause-ok : goal.returns-clause-ok

@@ -1,4 +1,4 @@
-use Rattle.std.proofs.Common.{◌<◌, length, ap, refl, ◌∙◌, arith}
+use Rattle.std.proofs.Common.{◌<◌, length, ap, refl, ◌∙◌, arith, rules}
 use Rattle.std.proofs.lemmas.List.{nil_from_length, with_items_is}
 use Rattle.value_pool.specs.Pools.{blocks_of}
 use Rattle.value_pool.proofs.TextLemmas.{road_here}
@@ -23,7 +23,8 @@ index_mut-requires c =
 pub invariant_of-self : goal.invariant_of-self
 invariant_of-self c =
     let len = ap length c.write-self-inside.ensures.region ∙ written-length c.deref_mut.result.now c.deref.result.now (blocks_of (length c.args.bytes.now)) c.self.inside.first_free c.args.bytes.now ∙ c.deref_mut.ensures.len in
-    put_parted_at c.self.inside.region.items c.deref_mut.result.now _ c.self.inside.links.items c.deref.result.now c.self.inside.lens.items c.args.bytes.now c.self.inside.first_free c.self.inside.free c.blocks-need.result c.write-self-inside.result c.self.invariant c.deref_mut.ensures.value c.deref.ensures.value c.blocks-need.ensures c.if-self-need.false (omega arith) (with_items_is c.self.inside.region c.write-self-inside.new.region len ∙ c.write-self-inside.ensures.region) c.write-self-inside.ensures.behind
+    let done = put_parted_at c.self.inside.region.items c.deref_mut.result.now _ c.self.inside.links.items c.deref.result.now c.self.inside.lens.items c.args.bytes.now c.self.inside.first_free c.self.inside.free c.blocks-need.result c.write-self-inside.result c.self.invariant c.deref_mut.ensures.value c.deref.ensures.value c.blocks-need.ensures c.if-self-need.false (omega arith) (with_items_is c.self.inside.region c.write-self-inside.new.region len ∙ c.write-self-inside.ensures.region) c.write-self-inside.ensures.behind in
+    search rules
 
 pub returns-clause-puts : goal.returns-clause-puts
 returns-clause-puts c =

@@ -1,4 +1,4 @@
-use Rattle.std.proofs.Common.{◌-◌, arith}
+use Rattle.std.proofs.Common.{◌-◌, arith, rules}
 use Rattle.value_pool.proofs.CallLemmas.{steps_at, begins_at, take_none_at, take_parted_at, take_texts_at}
 use Rattle.value_pool.proofs.pool.Pool.take_back.Goals as goal
 
@@ -21,8 +21,10 @@ index_mut-requires-2 c =
 
 pub invariant_of-self : goal.invariant_of-self
 invariant_of-self c =
-    take_parted_at c.self.inside.region.items c.self.inside.links.items c.deref.result.now c.self.inside.lens.items c.self.inside.first_free c.self.inside.free c.chain.inside.number c.args.self.now c.args.chain c.len-len.result c.blocks-need.result c.beyond-last.result c.self.invariant c.self.view_is c.chain.view_is c.len-len.ensures c.blocks-need.ensures (omega arith) c.deref.ensures.value c.beyond-last.ensures
+    let done = take_parted_at c.self.inside.region.items c.self.inside.links.items c.deref.result.now c.self.inside.lens.items c.self.inside.first_free c.self.inside.free c.chain.inside.number c.args.self.now c.args.chain c.len-len.result c.blocks-need.result c.beyond-last.result c.self.invariant c.self.view_is c.chain.view_is c.len-len.ensures c.blocks-need.ensures (omega arith) c.deref.ensures.value c.beyond-last.ensures in
+    search rules
 
 pub returns : goal.returns
 returns c =
-    take_texts_at c.self.inside.region.items c.self.inside.links.items c.deref.result.now c.self.inside.lens.items c.self.inside.first_free c.self.inside.free c.chain.inside.number c.args.self.now c.args.chain c.len-len.result c.blocks-need.result c.beyond-last.result c.self.invariant c.self.view_is c.chain.view_is c.len-len.ensures c.blocks-need.ensures (omega arith) c.deref.ensures.value c.beyond-last.ensures
+    let done = take_texts_at c.self.inside.region.items c.self.inside.links.items c.deref.result.now c.self.inside.lens.items c.self.inside.first_free c.self.inside.free c.chain.inside.number c.args.self.now c.args.chain c.len-len.result c.blocks-need.result c.beyond-last.result c.self.invariant c.self.view_is c.chain.view_is c.len-len.ensures c.blocks-need.ensures (omega arith) c.deref.ensures.value c.beyond-last.ensures in
+    search rules
