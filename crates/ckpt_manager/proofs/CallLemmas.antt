@@ -5,7 +5,7 @@ use Rattle.std.specs.Option.{option_map}
 use Rattle.std.specs.List.{find}
 use Rattle.std.proofs.lemmas.List.Elements.{All-weaker}
 use Rattle.std.proofs.lemmas.Bool.Decides.{nat_tests}
-use Rattle.ep_model.specs.Limits.{IsKey, IsValue}
+use Rattle.ep_model.specs.Limits.{IsKey, IsValue, end_of_moments}
 use Rattle.ep_model.specs.World.{blocks}
 use Rattle.ep_model.specs.declared.call.Meta.{Meta}
 use Rattle.ckpt_items.specs.declared.data.ItemData.{ItemData}
@@ -57,7 +57,7 @@ lower-not a b lower = grind (arith, nat_tests)
 equal-self : (a : ℕ) → nat_eq a a ≡ true
 equal-self a = grind (arith, nat_tests)
 
-found-number : (p : ItemData → Bool) (n : ℕ) (xs : List ItemData) (j : ItemData) → RiseAbove n xs → find p xs ≡ Some j → find (has_number j.meta.seqno) xs ≡ Some j
+pub found-number : (p : ItemData → Bool) (n : ℕ) (xs : List ItemData) (j : ItemData) → RiseAbove n xs → find p xs ≡ Some j → find (has_number j.meta.seqno) xs ≡ Some j
 found-number p n [] j rise is = absurd (cc)
 found-number p n (x ∷ xs) j rise is =
     elim (p x) as (λ b. cond b (Some x) (find p xs) ≡ Some j → find (has_number j.meta.seqno) (x ∷ xs) ≡ Some j) [
@@ -149,7 +149,7 @@ room-cleared q key len s room =
     let k : IsCleared q (cleared q key) key = is-cleared q key s in
     omega (arith, s.room, room, k.room, k.blocks)
 
-pub put-all : (a : Inside) (q : QueueData) (items : ItemsData) (key : List ℕ) (meta : Meta) (value : List ℕ) → queue_view a ≡ cleared q key → CountsKeys a → IsSoundQueue q → IsKey key → IsValue value → CanHold q key (length value) → q.high < 2 ^ 48 - 1 → meta.cas ≤ 2 ^ 62 + q.high + 1 → meta.len ≡ length value → items ≡ record a.items { last = a.items.last ++ item_of key meta value (a.high + 1) ∷ [] } → Leaves (record a { items = items; keys = a.keys + 1; high = a.high + 1; maxcas = meta.cas }) (queued q key meta value)
+pub put-all : (a : Inside) (q : QueueData) (items : ItemsData) (key : List ℕ) (meta : Meta) (value : List ℕ) → queue_view a ≡ cleared q key → CountsKeys a → IsSoundQueue q → IsKey key → IsValue value → CanHold q key (length value) → q.high < 2 ^ 48 - 1 → meta.cas ≤ end_of_moments + q.high + 1 → meta.len ≡ length value → items ≡ record a.items { last = a.items.last ++ item_of key meta value (a.high + 1) ∷ [] } → Leaves (record a { items = items; keys = a.keys + 1; high = a.high + 1; maxcas = meta.cas }) (queued q key meta value)
 put-all a q items key meta value view c s is_key is_value room few stamp len left =
     let k : IsCleared q (cleared q key) key = is-cleared q key s in
     let new : queue_view (record a { items = items; keys = a.keys + 1; high = a.high + 1; maxcas = meta.cas }) ≡ put_last (queue_view a) key meta value =

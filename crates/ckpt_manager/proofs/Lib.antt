@@ -3,3 +3,4 @@ pub mod QueueLemmas
 pub mod LastLemmas
 pub mod RoomLemmas
 pub mod CallLemmas
+pub mod WalkLemmas

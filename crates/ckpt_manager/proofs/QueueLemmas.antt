@@ -7,7 +7,7 @@ use Rattle.std.proofs.lemmas.List.Elements.{All-nil, All-append, All-filter, All
 use Rattle.std.proofs.lemmas.List.Sums.{sum_by-append, length-filter, count_by-le-length}
 use Rattle.std.proofs.lemmas.List.Filters.{sum_by-filter_both}
 use Rattle.std.proofs.lemmas.Bool.Decides.{nat_tests}
-use Rattle.ep_model.specs.Limits.{IsKey, IsValue}
+use Rattle.ep_model.specs.Limits.{IsKey, IsValue, end_of_moments}
 use Rattle.ep_model.specs.Plain.{IsSound}
 use Rattle.ep_model.specs.World.{blocks}
 use Rattle.ep_model.specs.declared.call.Meta.{Meta}
@@ -155,7 +155,7 @@ is-cleared q key s =
 
 -- a mutation is put last
 
-pub sound-put : (p : QueueData) (key : List ℕ) (meta : Meta) (value : List ℕ) → IsSoundQueue p → IsKey key → IsValue value → find (is_of key) p.last ≡ None → length p.last < p.ckpt_max → p.high < 2 ^ 48 - 1 → meta.cas ≤ 2 ^ 62 + p.high + 1 → meta.len ≡ length value → blocks (length key) + blocks (length value) ≤ free_blocks p → IsSoundQueue (put_last p key meta value)
+pub sound-put : (p : QueueData) (key : List ℕ) (meta : Meta) (value : List ℕ) → IsSoundQueue p → IsKey key → IsValue value → find (is_of key) p.last ≡ None → length p.last < p.ckpt_max → p.high < 2 ^ 48 - 1 → meta.cas ≤ end_of_moments + p.high + 1 → meta.len ≡ length value → blocks (length key) + blocks (length value) ≤ free_blocks p → IsSoundQueue (put_last p key meta value)
 sound-put p key meta value s is_key is_value absent fewer few stamp len room =
     let item : ItemData = item_of key meta value (p.high + 1) in
     let same : held p ++ item ∷ [] ≡ held (put_last p key meta value) = append_assoc p.closed p.last (item ∷ []) in

@@ -1,3 +1,4 @@
 pub mod Queue
 pub mod Sound
 pub mod View
+pub mod Walk

@@ -2,9 +2,11 @@
 #![tactic(auto)]
 
 mod data;
+mod laws;
 mod queue;
 
 pub use data::QueueData;
+pub use laws::reads_meet_the_last_items;
 pub use queue::Queue;
 
 #[cfg(test)]

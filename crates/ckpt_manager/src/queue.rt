@@ -54,7 +54,7 @@ impl Queue {
     ghost use Rattle.std.specs.Prelude.{◌≡◌, ◌≤◌, ◌<◌, ◌+◌, ◌-◌, ◌^◌, ◌↔◌, [], true, false, length};
     ghost use Rattle.std.specs.Prelude.{IsErr, IfOk, IfErr, OnOk, MatchBool, None};
     ghost use Rattle.ep_model.specs.Config.{config_fault};
-    ghost use Rattle.ep_model.specs.Limits.{IsKey, IsValue};
+    ghost use Rattle.ep_model.specs.Limits.{IsKey, IsValue, end_of_moments};
     ghost use Rattle.ep_model.specs.Plain.{IsSound};
     ghost use Rattle.ep_model.specs.World.{blocks};
     ghost use Rattle.ckpt_items.specs.Items.{blocks_of as blocks_of_items};
@@ -120,6 +120,7 @@ impl Queue {
             short.free ≡ free_blocks self.new + replaced_blocks self.new key.now) }
         ensures need { IfErr result (λ short. short.need ≡ blocks (length key.now) + blocks len) }
         ensures expelled { Expelled self.old self.new }
+        ensures same { CanHold self.old key.now len → self.new ≡ self.old }
         ensures last { LastStays self.old self.new }
     {
         let need = blocks_of(key.len() as u32) + blocks_of(len);
@@ -192,7 +193,7 @@ impl Queue {
         requires room { CanHold self.old key.now (length value.now) }
         requires number { self.old.high < 2 ^ 48 - 1 }
         requires rises { self.old.maxcas < meta.cas }
-        requires stamp { meta.cas ≤ 2 ^ 62 + self.old.high + 1 }
+        requires stamp { meta.cas ≤ end_of_moments + self.old.high + 1 }
         ensures number { result ≡ self.old.high + 1 }
         ensures after { self.new ≡ queued self.old key.now meta value.now }
         ensures kept { blocks_of_items (kept self.new) ≡ kept_with self.old key.now (length value.now) }

@@ -1,6 +1,10 @@
-// A queue's numbers and room by hand, and its calls against a plain list of items.
+// A queue's numbers and room by hand, its calls against a plain list of items, and what a queue stands on.
+mod cursors;
+mod failovers;
 mod fields;
+mod items;
 mod plain;
+mod pool;
 mod rows;
 
 ghost use Rattle.std.specs.Prelude.{◌≡◌, ◌≤◌, length, IfOk};
@@ -28,7 +32,10 @@ fn queue_of(alloc: Global, ckpt_blocks: u32, ckpt_max: u32) -> Result<Queue, Ope
     };
     match config.fault() {
         Some(field) => Err(OpenFault::BadConfig(field)),
-        None => Queue::new(alloc, &config).map_err(|_| OpenFault::NoMemory),
+        None => match Queue::new(alloc, &config) {
+            Ok(queue) => Ok(queue),
+            Err(_) => Err(OpenFault::NoMemory),
+        },
     }
 }
 
@@ -76,11 +83,19 @@ fn has_bytes(items: &Items, item: PlainItem, out: &mut Out) -> bool {
     items.key_to(item.number, out);
     items.value_to(item.number, out);
     match out.bytes() {
-        [key, value @ ..] => {
-            *key == item.key && value.len() == item.len && value.iter().all(|b| *b == item.fill)
-        }
+        [key, value @ ..] => *key == item.key && is_filled(value, item.fill, item.len),
         [] => false,
     }
+}
+
+/// Whether the bytes are so many times the same.
+fn is_filled(bytes: &[u8], fill: u8, len: usize) -> bool {
+    for byte in bytes {
+        if *byte != fill {
+            return false;
+        }
+    }
+    bytes.len() == len
 }
 
 /// Notes that the store holds all up to the number, where that is one that it may be told.
@@ -90,13 +105,4 @@ fn persist(queue: &mut Queue, number: u64) -> bool {
         queue.set_persisted(number);
     }
     fits
-}
-
-/// The number of the item that is read as the `index`th behind a number.
-fn number_after(queue: &Queue, seqno: u64, index: u64) -> Option<u64> {
-    let mut at = Some(seqno);
-    for _ in 0..index {
-        at = at.and_then(|number| queue.take_from(number));
-    }
-    at
 }

@@ -1,34 +1,56 @@
 // What a queue begins with and keeps beside its items.
 use super::{put, queue_of};
+use crate::Queue;
 use ep_model::VbState;
 use failover_table::Failovers;
-use std::test::Fail;
+use std::alloc::Global;
 
-#[test]
-fn a_queue_begins_behind_what_is_stored(rt: HostRuntime) -> Result<(), Fail> {
-    let mut queue = queue_of(rt.alloc(), 16, 2)?;
+fn numbers(queue: &Queue) -> [u64; 5] {
+    [
+        queue.high(),
+        queue.maxcas(),
+        queue.persisted(),
+        queue.cursor(),
+        queue.checkpoint_id(),
+    ]
+}
+
+/// Whether a queue that begins behind nine mutations has their numbers, and the next one's then.
+fn begins(alloc: Global) -> bool {
     let mut table = Failovers::new();
     table.add(7, 3);
+    let Ok(mut queue) = queue_of(alloc, 16, 2) else {
+        return false;
+    };
     queue.start(9, 20, &table);
-    assert_eq!(rt; queue.persisted(), 9);
-    assert_eq!(rt; queue.cursor(), 9);
-    assert_eq!(rt; queue.checkpoint_id(), 1);
-    assert_eq!(rt; queue.table().entry(0), Some((7, 3)));
-    assert_eq!(rt; queue.table().count(), 1);
-    assert_eq!(rt; put(&mut queue, b"a", b"xy"), Some(10));
-    assert_eq!(rt; queue.maxcas(), 21);
-    assert_eq!(rt; queue.items().count(), 1);
-    Ok(())
+    let began = numbers(&queue);
+    let number = put(&mut queue, b"a", b"xy");
+    [began, numbers(&queue)] == [[9, 20, 9, 9, 1], [10, 21, 9, 9, 1]]
+        && (number, queue.table().entry(0)) == (Some(10), Some((7, 3)))
 }
 
 #[test]
-fn a_state_is_set_and_opening_is_noted(rt: HostRuntime) -> Result<(), Fail> {
-    let mut queue = queue_of(rt.alloc(), 16, 2)?;
-    assert_eq!(rt; queue.state(), VbState::Active);
+fn a_queue_begins_behind_what_is_stored(rt: HostRuntime) {
+    assert!(rt; begins(rt.alloc()));
+}
+
+/// A queue's state and whether it has opened, before they are set and then.
+fn set(queue: &mut Queue) -> [(VbState, bool); 2] {
+    let began = (queue.state(), queue.is_opened());
     queue.set_state(VbState::Replica);
-    assert_eq!(rt; queue.state(), VbState::Replica);
-    assert!(rt; !queue.is_opened());
     queue.set_opened();
-    assert!(rt; queue.is_opened());
-    Ok(())
+    [began, (queue.state(), queue.is_opened())]
+}
+
+/// Whether a new queue is active and hasn't opened, and takes another state.
+fn is_set(alloc: Global) -> bool {
+    let Ok(mut queue) = queue_of(alloc, 16, 2) else {
+        return false;
+    };
+    set(&mut queue) == [(VbState::Active, false), (VbState::Replica, true)]
+}
+
+#[test]
+fn a_state_is_set_and_opening_is_noted(rt: HostRuntime) {
+    assert!(rt; is_set(rt.alloc()));
 }

@@ -1,7 +1,7 @@
 use Rattle.std.proofs.Common.{◌<◌, ◌≤◌, ◌+◌, ◌≡◌, ◌∙◌, ap, ℕ, List, rules, refl, arith, length}
 use Rattle.ep_model.specs.World.{blocks}
 use Rattle.ckpt_manager.specs.declared.data.QueueData.{QueueData}
-use Rattle.ckpt_manager.specs.Queue.{free_blocks, replaced_blocks, last_above, ExpelsOne, ExpelsNone}
+use Rattle.ckpt_manager.specs.Queue.{CanHold, free_blocks, replaced_blocks, last_above, ExpelsOne, ExpelsNone}
 use Rattle.ckpt_manager.proofs.RoomLemmas.{expelled-then, last-expelled, replaced-same}
 use Rattle.ckpt_manager.proofs.CallLemmas.{free-fits, room-fits, room-short}
 use Rattle.ckpt_manager.proofs.queue.Queue.room_for.Goals as goal
@@ -28,7 +28,24 @@ returns-then-not-expel-clause-short c =
 pub loop-len-preserved : goal.loop-len-preserved
 loop-len-preserved c =
     let one : ExpelsOne c.loop-len.self c.expel.new.self = search rules in
-    (expelled-then c.args.self.now c.loop-len.self c.expel.new.self c.loop-len.invariant.0 one, c.loop-len.invariant.1, c.loop-len.invariant.2)
+    let short : free_blocks c.loop-len.self + replaced_blocks c.args.self.now c.args.key.now < blocks (length c.args.key.now) + blocks c.args.len =
+    omega (arith, c.if-need-free.false, c.free.ensures.free, c.loop-len.invariant.1, c.loop-len.invariant.2) in (
+      expelled-then c.args.self.now c.loop-len.self c.expel.new.self c.loop-len.invariant.0 one,
+      c.loop-len.invariant.1,
+      c.loop-len.invariant.2,
+      λ (fits : CanHold c.args.self.now c.args.key.now c.args.len).
+          let same : free_blocks c.loop-len.self ≡ free_blocks c.args.self.now = ap (λ (q : QueueData). free_blocks q) (c.loop-len.invariant.3 fits) in
+          absurd (omega (arith, short, same, fits)),
+    )
+
+pub returns-then-need-free-clause-same : goal.returns-then-need-free-clause-same
+returns-then-need-free-clause-same c = c.loop-len.invariant.3
+
+pub returns-then-not-expel-clause-same : goal.returns-then-not-expel-clause-same
+returns-then-not-expel-clause-same c =
+    λ (fits : CanHold c.args.self.now c.args.key.now c.args.len).
+    let none : ExpelsNone c.loop-len.self c.expel.new.self = search rules in
+    none.same ∙ c.loop-len.invariant.3 fits
 
 pub returns-then-need-free-clause-last : goal.returns-then-need-free-clause-last
 returns-then-need-free-clause-last c =
@@ -45,3 +62,6 @@ returns-then-not-expel-clause-free c =
     let same : free_blocks c.expel.new.self + replaced_blocks c.expel.new.self c.args.key.now ≡ free_blocks c.loop-len.self + replaced_blocks c.loop-len.self c.args.key.now =
     ap (λ (q : QueueData). free_blocks q + replaced_blocks q c.args.key.now) none.same in
     omega (arith, same, c.free.ensures.free, c.loop-len.invariant.2, replaced-same c.args.self.now c.loop-len.self c.args.key.now c.loop-len.invariant.0)
+
+pub loop-len-init : goal.loop-len-init
+loop-len-init c = (search rules, search rules, search rules, λ (_ : CanHold c.args.self.now c.args.key.now c.args.len). refl)
