@@ -35,7 +35,8 @@ first_waiting places = find is_waiting places
 -- with this outcome at the ticket's place
 abbrev pub settled : List Place → Ticket → Outcome → List Place
 settled [] ticket outcome = []
-settled (place ∷ places) ticket outcome = if is_place_of ticket place then record place { outcome = outcome } ∷ places else place ∷ settled places ticket outcome
+settled (place ∷ places) ticket outcome =
+    if is_place_of ticket place then record place { outcome = outcome } ∷ places else place ∷ settled places ticket outcome
 
 -- without the places of a key
 abbrev pub is_not_keyed : List ℕ → Place → Bool
@@ -55,4 +56,6 @@ released places ticket = filter (is_not_of ticket) places
 -- within the limits.
 abbrev pub AreAsked : ℕ → ℕ → ℕ → List Place → Type 0
 AreAsked stripe low next [] = low ≤ next
-AreAsked stripe low next (place ∷ places) = (place.ticket.stripe ≡ stripe) × (low ≤ place.ticket.number) × IsKey place.key × AreAsked stripe (place.ticket.number + 1) next places
+AreAsked stripe low next (place ∷ places) =
+    (place.ticket.stripe ≡ stripe) × (low ≤ place.ticket.number) × IsKey place.key
+    × AreAsked stripe (place.ticket.number + 1) next places

@@ -1,5 +1,6 @@
 // A document in memory.
-ghost use Rattle.std.specs.Prelude.{◌≡◌, ◌+◌, min};
+ghost use Rattle.std.specs.Prelude.{◌≡◌};
+ghost use Rattle.stored_value.specs.Ages.{older};
 
 use ep_model::Meta;
 
@@ -26,7 +27,7 @@ impl<C> Node<C> {
 
     /// One older, at most 3.
     pub fn cool(&mut self)
-        ensures { self.new ≡ record self.old { age = min (self.old.age + 1) 3 } }
+        ensures { self.new ≡ record self.old { age = older self.old.age } }
     {
         self.age = self.age.saturating_add(1).min(OLDEST);
     }
