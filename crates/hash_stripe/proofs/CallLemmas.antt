@@ -7,17 +7,19 @@ use Rattle.std.proofs.lemmas.Bool.{leb-false}
 use Rattle.std.proofs.lemmas.Slice.Eq.{bytes_eq-Decides}
 use Rattle.std.proofs.lemmas.List.{length-set}
 use Rattle.ep_model.specs.declared.call.Meta.{Meta}
+use Rattle.ep_model.specs.declared.config.Eviction.{Eviction}
 use Rattle.ep_model.specs.declared.config.Eviction.TheVariants as evictions
 use Rattle.ep_model.specs.Limits.{IsKey}
 use Rattle.ep_model.specs.Stripes.{stripe_of}
+use Rattle.hash_stripe.specs.declared.found.Found.{Found}
 use Rattle.hash_stripe.specs.declared.found.Found.TheVariants.{Nothing}
 use Rattle.hash_stripe.specs.declared.found.Look.{Look}
-use Rattle.hash_stripe.specs.Nodes.{NodeData, Slot, used, at, node_blocks, slot_blocks, is_keyed, slot_of, node_in, node_at, first_empty, others_blocks, is_full_eviction, is_ejectable_slot, eject_at, victim, or_else, with_slot, placed}
-use Rattle.hash_stripe.specs.Looks.{look_of, aged, found_look}
-use Rattle.hash_stripe.specs.Stripes.{StripeData, IsNode, IsStripe, found, key_of, age_of}
+use Rattle.hash_stripe.specs.Nodes.{NodeData, Slot, used, at, node_blocks, slot_blocks, is_keyed, slot_of, node_in, node_at, first_empty, others_blocks, is_full_eviction, is_ejectable_slot, eject_at, victim, or_else, with_slot, placed, heated}
+use Rattle.hash_stripe.specs.Looks.{look_of, found_look}
+use Rattle.hash_stripe.specs.Stripes.{StripeData, IsNode, IsSlot, IsStripe, Fits, IsValueOf, IsShown, found, found_value, key_of, age_of}
 use Rattle.hash_stripe.proofs.ChainLemmas.{sum_of-set}
 use Rattle.hash_stripe.proofs.RoomLemmas.{first-slot, others-all, none-has, used-split, empty-slot}
-use Rattle.hash_stripe.proofs.StripeLemmas.{slots-changed, slot-at, key-few, apart-changed, apart-put, stripe-changed, stripe-ejected, marked-slots, aged-slot}
+use Rattle.hash_stripe.proofs.StripeLemmas.{slots-changed, slot-at, key-few, apart-changed, apart-put, stripe-changed, stripe-ejected, marked-slots, heated-slot}
 
 pub found-nothing : (s : Slot) (o : Option Look) → o ≡ look_of s → o ≡ None → Nothing ≡ found s
 found-nothing None o is none = refl
@@ -75,10 +77,10 @@ stripe-marked x s number same stripe h =
 pub stripe-with : (s : StripeData) (new x : List Slot) → new ≡ x → IsStripe (record s { slots = x }) → IsStripe (record s { slots = new })
 stripe-with s new x is stripe = subst (λ (y : List Slot). IsStripe (record s { slots = y })) (sym is) stripe
 
-pub stripe-heated : (s : StripeData) (new : List Slot) (i : ℕ) → IsStripe s → i < length s.slots → new ≡ set s.slots i (aged 0 (at s.slots i)) → IsStripe (record s { slots = new })
+pub stripe-heated : (s : StripeData) (new : List Slot) (i : ℕ) → IsStripe s → i < length s.slots → new ≡ set s.slots i (heated (at s.slots i)) → IsStripe (record s { slots = new })
 stripe-heated s new i stripe inside is =
-    let all = aged-slot s.index s.stripes s.eviction s.mark (at s.slots i) (slot-at s.index s.stripes s.eviction s.mark s.slots i stripe.nodes) in
-    stripe-with s new (set s.slots i (aged 0 (at s.slots i))) is (stripe-changed s i (aged 0 (at s.slots i)) stripe inside all.0 all.1 all.2)
+    let all = heated-slot s.index s.stripes s.eviction s.mark (at s.slots i) (slot-at s.index s.stripes s.eviction s.mark s.slots i stripe.nodes) in
+    stripe-with s new (set s.slots i (heated (at s.slots i))) is (stripe-changed s i (heated (at s.slots i)) stripe inside all.0 all.1 all.2)
 
 pub stripe-eject : (x s : StripeData) (key : List ℕ) (new : List Slot) (o : Option ℕ) (i : ℕ) → x ≡ s → IsStripe x → o ≡ slot_of x.slots key → o ≡ Some i → i < length x.slots → is_ejectable_slot s.mark (node_at s.slots key) ≡ true → new ≡ eject_at x.eviction x.slots i → IsStripe (record x { slots = new })
 stripe-eject x s key new o i same stripe o-is some inside may is =
@@ -185,7 +187,42 @@ stripe-added x s key meta new need free same stripe keyed home evicts stored liv
     (omega arith)
     is
 
+pub added-fits : (x s : StripeData) (key : List ℕ) (free need : ℕ) → x ≡ s → node_at s.slots key ≡ None → free + used x.slots ≡ length x.slots → need ≤ free → Fits key need s.slots
+added-fits x s key free need same none free-is fits =
+    let absent = none-has key x.slots 0 (absent-slot x s key same none) in
+    let all = others-all key x.slots absent in
+    subst (λ (y : StripeData). others_blocks key y.slots + need ≤ length y.slots) same (omega arith)
+
 -- each key fits into 250 bytes
 pub key-fits : (s : StripeData) (o : Option ℕ) → IsStripe s → length (key_of (node_in s.slots o)) ≤ 250
 key-fits s None is = omega arith
 key-fits s (Some slot) is = key-few s.index s.stripes s.eviction s.mark s.slots slot is.nodes
+
+-- what is so of each node is so of a key's, and its key is this one
+sound-in : (s : StripeData) (o : Option ℕ) → IsStripe s → IsSlot s.index s.stripes s.eviction s.mark (node_in s.slots o)
+sound-in s None is = tt
+sound-in s (Some slot) is = slot-at s.index s.stripes s.eviction s.mark s.slots slot is.nodes
+
+pub key-sound : (x s : StripeData) (key : List ℕ) → x ≡ s → IsStripe x → IsSlot s.index s.stripes s.eviction s.mark (node_at s.slots key)
+key-sound x s key same is = sound-in s (slot_of s.slots key) (subst IsStripe same is)
+
+keyed-in : (key : List ℕ) (slots : List Slot) (o : Option ℕ) (node : NodeData) → slot_of slots key ≡ o → node_in slots o ≡ Some node → node.key ≡ key
+keyed-in key slots None node is some = absurd (cc)
+keyed-in key slots (Some slot) node is some =
+    (bytes_eq-Decides node.key key).0 (sym (ap (is_keyed key) some) ∙ (first-slot (is_keyed key) slots slot is).1)
+
+pub key-same : (key : List ℕ) (slots : List Slot) (node : NodeData) → node_at slots key ≡ Some node → node.key ≡ key
+key-same key slots node some = keyed-in key slots (slot_of slots key) node refl some
+
+-- what was found says of the key's slot
+shown-in : (key : List ℕ) (meta : Meta) (v : Option (List ℕ)) (age : ℕ) → IsValueOf meta v → IsShown (found_value meta v) (Some (record { key = key; meta = meta; value = v; age = age }))
+shown-in key meta None age is = (refl, refl)
+shown-in key meta (Some value) age is = (refl, sym is.1)
+
+shown-of : (index stripes : ℕ) (e : Eviction) (mark : ℕ) (s : Slot) → IsSlot index stripes e mark s → IsShown (found s) s
+shown-of index stripes e mark None is = refl
+shown-of index stripes e mark (Some node) is = shown-in node.key node.meta node.value node.age is.value
+
+pub key-shown : (index stripes : ℕ) (e : Eviction) (mark : ℕ) (s : Slot) (f : Found) → f ≡ found s → IsSlot index stripes e mark s → IsShown f s
+key-shown index stripes e mark s f shows is =
+    subst (λ (g : Found). IsShown g s) (sym shows) (shown-of index stripes e mark s is)

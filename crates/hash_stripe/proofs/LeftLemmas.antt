@@ -13,6 +13,10 @@ then-left e mark key s mid new may other mid-is (inl same) = inr (may, other, sa
 then-left e mark key s mid new may other mid-is (inr more) =
     absurd (let gone = ap (is_ejectable_slot mark) mid-is ∙ no-more e mark s in let again = more.0 in cc)
 
+pub left-on : (e : Eviction) (mark : ℕ) (key : List ℕ) (s mid new : Slot) → IsLeft e mark key s mid → IsLeft e mark key mid new → IsLeft e mark key s new
+left-on e mark key s mid new (inl same) rest = subst (λ (x : Slot). IsLeft e mark key x new) same rest
+left-on e mark key s mid new (inr went) rest = then-left e mark key s mid new went.0 went.1 went.2 rest
+
 slotwise : (e : Eviction) (mark : ℕ) (key : List ℕ) (need n : ℕ) (old new : List Slot) → Ejects e mark key need n old new → (i : ℕ) → IsLeft e mark key (at old i) (at new i)
 slotwise e mark key need zero old new same i = inl (ap (λ (s : List Slot). at s i) same)
 slotwise e mark key need (suc n) old new chain i =

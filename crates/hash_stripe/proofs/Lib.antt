@@ -5,3 +5,4 @@ pub mod StripeLemmas
 pub mod PinLemmas
 pub mod CallLemmas
 pub mod LeftLemmas
+pub mod KeyLemmas

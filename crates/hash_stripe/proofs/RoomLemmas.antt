@@ -1,5 +1,5 @@
 -- Slots as documents are ejected and put.
-use Rattle.std.proofs.Common.{◌≡◌, ◌<◌, ◌≤◌, ℕ, suc, zero, ◌+◌, ◌∙◌, Bool, true, false, not, cond, ◌&&◌, ◌||◌, List, [], ◌∷◌, length, nat_eq, nat_le, refl, sym, ap, subst, add-one, arith}
+use Rattle.std.proofs.Common.{◌≡◌, ◌<◌, ◌≤◌, ℕ, suc, zero, ◌+◌, ◌∙◌, Bool, true, false, not, cond, ◌&&◌, ◌||◌, List, [], ◌∷◌, length, get_or, nat_eq, nat_le, refl, sym, ap, subst, add-one, arith}
 use Rattle.std.proofs.Math.ListN.{set}
 use Rattle.std.specs.Prelude.{Option, Some, None, map, count_by, take}
 use Rattle.std.specs.Int.{from_bool}
@@ -12,7 +12,8 @@ use Rattle.std.proofs.lemmas.Bool.{and_parts}
 use Rattle.std.proofs.lemmas.Slice.Eq.{bytes_eq-Decides}
 use Rattle.std.proofs.lemmas.List.{length-set, set-set}
 use Rattle.ep_model.specs.declared.config.Eviction.{Eviction}
-use Rattle.hash_stripe.specs.Nodes.{NodeData, Slot, sum_of, used, at, slot_blocks, is_keyed, slot_of, node_in, others_blocks, is_ejectable, is_ejectable_slot, is_full_eviction, eject_slot, eject_at, is_victim, first_of_age, or_else, victim, Ejects, EjectsOthers, first_empty, placed, with_slot, cooled}
+use Rattle.ep_model.specs.World.{blocks}
+use Rattle.hash_stripe.specs.Nodes.{NodeData, Slot, sum_of, used, at, slot_blocks, node_blocks, is_clean, slot_pinned, others_pinned, is_keyed, slot_of, node_in, others_blocks, is_ejectable, is_ejectable_slot, is_full_eviction, eject_slot, eject_at, is_victim, first_of_age, or_else, victim, Ejects, EjectsOthers, first_empty, placed, with_slot, cooled}
 use Rattle.hash_stripe.specs.Stripes.{has_key, IsApart, AreApart, AreKeyed}
 use Rattle.hash_stripe.proofs.ChainLemmas.{sum_of-set}
 
@@ -289,3 +290,51 @@ counts-more test slots i n m b counts h b-is m-is =
 
 pub counts-all : (test : Slot → Bool) (slots : List Slot) (i n : ℕ) → length slots ≤ i → Counts test slots i n → n ≡ count_by test slots
 counts-all test slots i n h counts = counts.count ∙ ap (count_by test) (take_all i slots h)
+
+-- a node's pinned blocks are among its blocks
+slot-pinned-within : (e : Eviction) (mark : ℕ) (s : Slot) → slot_pinned e mark s ≤ slot_blocks s
+slot-pinned-within e mark None = omega arith
+slot-pinned-within e mark (Some node) =
+    elim (is_clean mark node) as (λ b. cond b (cond (is_full_eviction e || node.meta.deleted) 0 (blocks (length node.key))) (node_blocks node) ≤ node_blocks node) [
+      | true ↦ elim (is_full_eviction e || node.meta.deleted) as (λ b. cond b 0 (blocks (length node.key)) ≤ node_blocks node) [ true ↦ omega arith | false ↦ omega arith ]
+      | false ↦ omega arith
+    ]
+
+-- what the first so many slots pin beside a key's
+pub record Pins (e : Eviction) (mark : ℕ) (key : List ℕ) (slots : List Slot) (i n : ℕ) : Type 0 where
+  pub sum : n ≡ others_pinned e mark key (take i slots)
+  pub few : n ≤ used (take i slots)
+
+sum_of-take : {X : Type 0} (count : X → ℕ) (xs : List X) (i : ℕ) (d : X) → i < length xs → sum_of count (take (i + 1) xs) ≡ sum_of count (take i xs) + count (get_or xs i d)
+sum_of-take count [] i d h = absurd (omega arith)
+sum_of-take count (x ∷ xs) zero d h = omega arith
+sum_of-take count (x ∷ xs) (suc i) d h =
+    let rest = sum_of-take count xs i d (omega arith) in
+    let same : suc i + 1 ≡ suc (i + 1) = omega arith in
+    let later : sum_of count (take (suc i + 1) (x ∷ xs)) ≡ count x + sum_of count (take (i + 1) xs) = ap (λ k. sum_of count (take k (x ∷ xs))) same in
+    omega arith
+
+sum_of-taken : {X : Type 0} (count : X → ℕ) (xs : List X) (i : ℕ) → sum_of count (take i xs) ≤ sum_of count xs
+sum_of-taken count [] zero = omega arith
+sum_of-taken count [] (suc i) = omega arith
+sum_of-taken count (x ∷ xs) zero = omega arith
+sum_of-taken count (x ∷ xs) (suc i) = let rest = sum_of-taken count xs i in omega arith
+
+pub pins-none : (e : Eviction) (mark : ℕ) (key : List ℕ) (slots : List Slot) → Pins e mark key slots 0 0
+pins-none e mark key slots = record { sum = refl; few = omega arith }
+
+pub pins-more : (e : Eviction) (mark : ℕ) (key : List ℕ) (slots : List Slot) (i n m : ℕ) → Pins e mark key slots i n → i < length slots → m ≡ cond (is_keyed key (at slots i)) 0 (slot_pinned e mark (at slots i)) → Pins e mark key slots (i + 1) (n + m)
+pins-more e mark key slots i n m pins h m-is =
+    let more = sum_of-take (λ (s : Slot). cond (is_keyed key s) 0 (slot_pinned e mark s)) slots i None h in
+    let blocks = sum_of-take slot_blocks slots i None h in
+    let within : m ≤ slot_blocks (at slots i) =
+    subst (λ k. k ≤ slot_blocks (at slots i)) (sym m-is) (elim (is_keyed key (at slots i)) as (λ b. cond b 0 (slot_pinned e mark (at slots i)) ≤ slot_blocks (at slots i)) [ true ↦ omega arith | false ↦ slot-pinned-within e mark (at slots i) ]) in
+    let s = pins.sum in
+    let f = pins.few in
+    record { sum = omega arith; few = omega arith }
+
+pub pins-few : (e : Eviction) (mark : ℕ) (key : List ℕ) (slots : List Slot) (i n : ℕ) → Pins e mark key slots i n → n ≤ used slots
+pins-few e mark key slots i n pins = let a = sum_of-taken slot_blocks slots i in let b = pins.few in omega arith
+
+pub pins-all : (e : Eviction) (mark : ℕ) (key : List ℕ) (slots : List Slot) (i n : ℕ) → length slots ≤ i → Pins e mark key slots i n → n ≡ others_pinned e mark key slots
+pins-all e mark key slots i n h pins = pins.sum ∙ ap (others_pinned e mark key) (take_all i slots h)

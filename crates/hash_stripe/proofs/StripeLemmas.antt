@@ -14,9 +14,8 @@ use Rattle.ep_model.specs.declared.call.VbState.{VbState}
 use Rattle.ep_model.specs.declared.config.Field.{Field}
 use Rattle.ep_model.specs.declared.config.Field.TheVariants.{Vbuckets, Stripes, Blocks}
 use Rattle.ep_model.specs.Config.{is_outside, config_fault}
-use Rattle.hash_stripe.specs.Nodes.{NodeData, Slot, used, at, slot_blocks, is_keyed, is_clean, is_full_eviction, is_ejectable_slot, eject_slot, eject_at, Ejects, cooled}
+use Rattle.hash_stripe.specs.Nodes.{NodeData, Slot, used, at, slot_blocks, is_keyed, is_clean, is_full_eviction, is_ejectable_slot, eject_slot, eject_at, Ejects, heated, cooled}
 use Rattle.hash_stripe.specs.Stripes.{StripeData, IsSlot, AreSlots, has_key, IsApart, AreApart, AreKeyed, IsStripe, IsValueOf, key_of}
-use Rattle.hash_stripe.specs.Looks.{aged}
 use Rattle.hash_stripe.proofs.ChainLemmas.{sum_of-set}
 use Rattle.hash_stripe.proofs.RoomLemmas.{next-facts, keyed-has, apart-key}
 
@@ -42,7 +41,7 @@ pub either-false : (a b : Bool) → (a || b) ≡ false → (a ≡ false) × (b �
 either-false true b e = absurd (cc)
 either-false false b e = (refl, e)
 
-has-set : (key : List ℕ) (slots : List Slot) (i : ℕ) (x : Slot) → has_key key slots ≡ false → is_keyed key x ≡ false → has_key key (set slots i x) ≡ false
+pub has-set : (key : List ℕ) (slots : List Slot) (i : ℕ) (x : Slot) → has_key key slots ≡ false → is_keyed key x ≡ false → has_key key (set slots i x) ≡ false
 has-set key [] i x none here = refl
 has-set key (s ∷ slots) zero x none here =
     let parts = either-false (is_keyed key s) (has_key key slots) none in
@@ -182,9 +181,9 @@ marked-slots index stripes e mark number (Some node ∷ slots) h all = (
 )
 
 -- heated and cooled nodes
-pub aged-slot : (index stripes : ℕ) (e : Eviction) (mark : ℕ) (s : Slot) → IsSlot index stripes e mark s → IsSlot index stripes e mark (aged 0 s) × KeepsKey s (aged 0 s) × (slot_blocks (aged 0 s) ≤ slot_blocks s)
-aged-slot index stripes e mark None is = (tt, (λ key k. k), omega arith)
-aged-slot index stripes e mark (Some node) is =
+pub heated-slot : (index stripes : ℕ) (e : Eviction) (mark : ℕ) (s : Slot) → IsSlot index stripes e mark s → IsSlot index stripes e mark (heated s) × KeepsKey s (heated s) × (slot_blocks (heated s) ≤ slot_blocks s)
+heated-slot index stripes e mark None is = (tt, (λ key k. k), omega arith)
+heated-slot index stripes e mark (Some node) is =
     (record { key = is.key; home = is.home; value = is.value; ejected = is.ejected; age = omega arith }, (λ key k. k), omega arith)
 
 cooled-slots : (index stripes : ℕ) (e : Eviction) (mark : ℕ) (slots : List Slot) → AreSlots index stripes e mark slots → AreSlots index stripes e mark (map cooled slots)
@@ -193,12 +192,12 @@ cooled-slots index stripes e mark (None ∷ slots) all = (tt, cooled-slots index
 cooled-slots index stripes e mark (Some node ∷ slots) all =
     (record { key = all.0.key; home = all.0.home; value = all.0.value; ejected = all.0.ejected; age = omega arith }, cooled-slots index stripes e mark slots all.1)
 
-cooled-has : (key : List ℕ) (slots : List Slot) → has_key key (map cooled slots) ≡ has_key key slots
+pub cooled-has : (key : List ℕ) (slots : List Slot) → has_key key (map cooled slots) ≡ has_key key slots
 cooled-has key [] = refl
 cooled-has key (None ∷ slots) = cooled-has key slots
 cooled-has key (Some node ∷ slots) = ap (λ b. bytes_eq node.key key || b) (cooled-has key slots)
 
-cooled-apart : (slots : List Slot) → AreApart slots → AreApart (map cooled slots)
+pub cooled-apart : (slots : List Slot) → AreApart slots → AreApart (map cooled slots)
 cooled-apart [] apart = tt
 cooled-apart (None ∷ slots) apart = (tt, cooled-apart slots apart.1)
 cooled-apart (Some node ∷ slots) apart = (cooled-has node.key slots ∙ apart.0, cooled-apart slots apart.1)

@@ -13,8 +13,8 @@ use Rattle.std.proofs.lemmas.Option.{slice_get_within, get_or_from_slice_get, sl
 use Rattle.ep_model.specs.declared.call.Meta.{Meta}
 use Rattle.value_pool.specs.Pools.{Held, blocks_of, all_free, Puts, TakesBack}
 use Rattle.stored_value.specs.declared.node.Node.{Node}
-use Rattle.hash_stripe.specs.Nodes.{NodeData, Slot, used, at, slot_blocks, is_keyed}
-use Rattle.hash_stripe.specs.Looks.{aged, without_value}
+use Rattle.hash_stripe.specs.Nodes.{NodeData, Slot, used, at, slot_blocks, is_keyed, aged}
+use Rattle.hash_stripe.specs.Looks.{without_value}
 use Rattle.hash_stripe.specs.Chains.{Place, text, slot_in, slots_of, value_chains, place_chains, IsKept}
 use Rattle.hash_stripe.proofs.ChainLemmas.{puts-kept, backs-kept, swap-kept, Leaves, new-kept, slots-empty}
 
@@ -110,15 +110,15 @@ put-in p q places s i node new is left view =
 stays : (p : Held) (places : List Place) (loose : List ℕ) (key : ℕ) → IsKept p places loose → Leaves p p places (key ∷ []) loose
 stays p places loose key kept = record { stands = kept; slots = refl; same = (refl, tt) }
 
-pub set-aged : (p : Held) (places first new : List Place) (s : List Slot) (i age : ℕ) (node changed : Node ℕ) → IsKept p places [] → slots_of p.texts places ≡ s → slice_get places i ≡ Some (Some node) → first ≡ set places i None → changed ≡ record node { age = age } → new ≡ set first i (Some changed) → Holds p new (set s i (aged age (at s i)))
-set-aged p places first new s i age node changed kept view is first-is changed-is new-is =
+pub set-aged : (p : Held) (places first new : List Place) (s : List Slot) (i : ℕ) (by : ℕ → ℕ) (node changed : Node ℕ) → IsKept p places [] → slots_of p.texts places ≡ s → slice_get places i ≡ Some (Some node) → first ≡ set places i None → changed ≡ record node { age = by node.age } → new ≡ set first i (Some changed) → Holds p new (set s i (aged by (at s i)))
+set-aged p places first new s i by node changed kept view is first-is changed-is new-is =
     let out = swap-kept p places i (Some node) None is kept in
-    let all = put-in p p places s i node (record node { age = age }) is (stays p (set places i None) (place_chains (Some node)) node.key out) view in
-    let there : aged age (at s i) ≡ slot_in p.texts (Some (record node { age = age })) = ap (aged age) (shown p.texts places s i (Some node) view is) in
-    let new-here : new ≡ set (set places i None) i (Some (record node { age = age })) =
+    let all = put-in p p places s i node (record node { age = by node.age }) is (stays p (set places i None) (place_chains (Some node)) node.key out) view in
+    let there : aged by (at s i) ≡ slot_in p.texts (Some (record node { age = by node.age })) = ap (aged by) (shown p.texts places s i (Some node) view is) in
+    let new-here : new ≡ set (set places i None) i (Some (record node { age = by node.age })) =
     new-is ∙ ap (λ (ps : List Place). set ps i (Some changed)) first-is ∙ ap (λ (x : Node ℕ). set (set places i None) i (Some x)) changed-is in
-    subst (λ (ps : List Place). Holds p ps (set s i (aged age (at s i)))) (sym new-here)
-    (subst (λ (x : Slot). Holds p (set (set places i None) i (Some (record node { age = age }))) (set s i x)) (sym there) all)
+    subst (λ (ps : List Place). Holds p ps (set s i (aged by (at s i)))) (sym new-here)
+    (subst (λ (x : Slot). Holds p (set (set places i None) i (Some (record node { age = by node.age }))) (set s i x)) (sym there) all)
 
 -- a loose node's value is taken back
 value-back : (p q : Held) (places : List Place) (key : ℕ) (v : Option ℕ) → IsKept p places (value_chains v (key ∷ [])) → MatchOption v (q ≡ p) (λ c. TakesBack p q c) → Leaves p q places (key ∷ []) (key ∷ [])

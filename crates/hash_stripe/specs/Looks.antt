@@ -1,5 +1,5 @@
 -- What a table shows of its slots and does to them.
-use Rattle.std.specs.Prelude.{ℕ, if◌then◌else◌, Option, Some, None}
+use Rattle.std.specs.Prelude.{if◌then◌else◌, Option, Some, None}
 use Rattle.std.specs.Option.{is_some}
 use Rattle.hash_stripe.specs.declared.found.Found.{Found}
 use Rattle.hash_stripe.specs.declared.found.Found.TheVariants.{Ejected, Resident}
@@ -9,10 +9,6 @@ use Rattle.hash_stripe.specs.Nodes.{Slot}
 abbrev pub look_of : Slot → Option Look
 look_of None = None
 look_of (Some node) = Some (record { meta = node.meta; is_resident = is_some node.value; age = node.age })
-
-abbrev pub aged : ℕ → Slot → Slot
-aged age None = None
-aged age (Some node) = Some (record node { age = age })
 
 abbrev pub without_value : Slot → Slot
 without_value None = None

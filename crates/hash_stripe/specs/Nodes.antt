@@ -1,5 +1,5 @@
 -- What memory has of documents, as lists of slots that are empty or hold a node.
-use Rattle.std.specs.Prelude.{ℕ, zero, suc, ◌+◌, ◌<◌, ◌≡◌, ◌⊎◌, min, Bool, true, false, not, ◌==◌, ◌&&◌, ◌||◌, nat_le, if◌then◌else◌, List, [], ◌∷◌, length, slice_index_or, slice_set, Option, Some, None}
+use Rattle.std.specs.Prelude.{ℕ, zero, suc, ◌+◌, ◌<◌, ◌≤◌, ◌≡◌, ◌⊎◌, Bool, true, false, not, ◌==◌, ◌&&◌, ◌||◌, nat_le, if◌then◌else◌, List, [], ◌∷◌, length, slice_index_or, slice_set, Option, Some, None}
 use Rattle.std.specs.List.{position_from}
 use Rattle.std.specs.Option.{is_some, is_none}
 use Rattle.std.specs.Str.{bytes_eq}
@@ -7,6 +7,7 @@ use Rattle.ep_model.specs.declared.call.Meta.{Meta}
 use Rattle.ep_model.specs.declared.config.Eviction.{Eviction}
 use Rattle.ep_model.specs.declared.config.Eviction.TheVariants as evictions
 use Rattle.ep_model.specs.World.{blocks}
+use Rattle.stored_value.specs.Ages.{older}
 
 -- a document's key, its metadata, its value where that is resident, and how long ago it was used
 pub record NodeData : Type 0 where
@@ -144,10 +145,16 @@ abbrev pub IsLeft : Eviction → ℕ → List ℕ → Slot → Slot → Type 0
 IsLeft eviction mark key old new =
     (new ≡ old) ⊎ ((is_ejectable_slot mark old ≡ true) × (is_keyed key old ≡ false) × (new ≡ eject_slot eviction old))
 
--- one older, at most 3
+-- with another age, one that is used, and one older
+abbrev pub aged : (ℕ → ℕ) → Slot → Slot
+aged by None = None
+aged by (Some node) = Some (record node { age = by node.age })
+
+abbrev pub heated : Slot → Slot
+heated slot = aged (λ age. 0) slot
+
 abbrev pub cooled : Slot → Slot
-cooled None = None
-cooled (Some node) = Some (record node { age = min (node.age + 1) 3 })
+cooled slot = aged older slot
 
 -- with this node in its key's slot, or where it has none in the first empty one
 abbrev pub slot_for : List Slot → List ℕ → Option ℕ
@@ -169,8 +176,9 @@ abbrev pub is_ejected : Slot → Bool
 is_ejected None = false
 is_ejected (Some node) = not (is_some node.value)
 
--- some documents of other keys are ejected, and then this one is put
+-- some documents of other keys are ejected, and then this one is put, which fits
 pub record Restores (eviction : Eviction) (mark : ℕ) (need : ℕ) (node : NodeData) (old new : List Slot) : Type 0 where
   pub room : List Slot
   pub ejects : EjectsOthers eviction mark node.key need old room
+  pub fits : others_blocks node.key room + need ≤ length room
   pub puts : new ≡ placed room node

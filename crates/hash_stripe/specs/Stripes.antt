@@ -82,10 +82,6 @@ abbrev pub found : Slot → Found
 found None = Nothing
 found (Some node) = found_value node.meta node.value
 
-abbrev pub heated : Slot → Slot
-heated None = None
-heated (Some node) = Some (record node { age = 0 })
-
 abbrev pub key_of : Slot → List ℕ
 key_of None = []
 key_of (Some node) = node.key
@@ -122,6 +118,12 @@ at_key change slots key = at_slot change slots (slot_of slots key)
 abbrev pub IsAwayOf : Meta → Slot → Type 0
 IsAwayOf meta None = Unit {0}
 IsAwayOf meta (Some node) = (node.value ≡ None) × (node.meta ≡ meta)
+
+-- What is so of a slot that shows this. So whoever found it may read the value, put it back, or add the metadata.
+abbrev pub IsShown : Found → Slot → Type 0
+IsShown Nothing slot = slot ≡ None
+IsShown (Ejected meta) slot = IsAwayOf meta slot
+IsShown (Resident meta) slot = (is_some (resident_value slot) ≡ true) × (length (text_of (resident_value slot)) ≡ meta.len)
 
 -- no node's key is empty
 abbrev pub IsKeyed : Slot → Type 0

@@ -1,8 +1,19 @@
-//! The law of ejecting. The function does nothing: its contract is the law, over all slots.
-ghost use Rattle.hash_stripe.specs.Laws.{EjectingIsSlotwise};
+//! The laws of what calls leave. The functions do nothing: their contracts are the laws, over all stripes.
+ghost use Rattle.hash_stripe.specs.Laws.{EjectingIsSlotwise, EjectingIsKeywise, PlacingIsKeywise, RestoringIsKeywise, HeatingIsKeywise, DroppingIsKeywise, CoolingIsKeywise};
 
 /// Ejecting changes no metadata that stays, no document of the key that room is made for, and nothing that isn't stored:
 /// each slot is as it was, or has what is left of a clean document of another key.
 pub fn ejecting_is_slotwise()
     ensures { EjectingIsSlotwise }
+{}
+
+/// What calls leave of a stripe as a map from keys: a call on a key leaves all other keys what they had, but for what
+/// ejecting takes, and all that ejecting leaves under a key is what the key had or what is left of a clean document.
+pub fn calls_are_keywise()
+    ensures ejecting { EjectingIsKeywise }
+    ensures placing { PlacingIsKeywise }
+    ensures restoring { RestoringIsKeywise }
+    ensures heating { HeatingIsKeywise }
+    ensures dropping { DroppingIsKeywise }
+    ensures cooling { CoolingIsKeywise }
 {}

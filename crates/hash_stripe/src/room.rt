@@ -1,17 +1,14 @@
 // Room for a document, made by ejecting others.
-ghost use Rattle.std.specs.Prelude.{◌≡◌, ◌+◌, ◌<◌, ◌≤◌, ◌||◌, false, true, length, map, count_by, min, None, Some, nat_le, slice_set};
+ghost use Rattle.std.specs.Prelude.{◌≡◌, ◌+◌, ◌<◌, ◌≤◌, ◌||◌, false, cond, length, map, count_by, None, nat_le};
 ghost use Rattle.ep_model.specs.Limits.{IsKey};
 ghost use Rattle.value_pool.specs.Pools.{blocks_of};
-ghost use Rattle.hash_stripe.specs.Nodes.{is_full_eviction, at, used, others_blocks, victim, eject_at, EjectsOthers, slot_of, placed, cooled, is_resident, is_ejected};
+ghost use Rattle.hash_stripe.specs.Nodes.{is_full_eviction, is_keyed, slot_pinned, others_pinned, at, used, others_blocks, victim, eject_at, EjectsOthers, slot_of, placed, cooled, is_resident, is_ejected};
 ghost use Rattle.hash_stripe.specs.Stripes.{Fits, AreApart, AreKeyed};
 
 use crate::found::Counts;
 use crate::search;
 use crate::table::Table;
 use ep_model::{Eviction, Meta, rules};
-
-/// The greatest age.
-const OLDEST: u8 = 3;
 
 /// Whether no node is left of a document that is ejected.
 fn is_dropped(eviction: Eviction, deleted: bool) -> bool
@@ -86,6 +83,49 @@ pub(crate) fn make_room(
     true
 }
 
+/// The blocks of a slot's node that no ejecting frees.
+fn slot_pinned(table: &Table, eviction: Eviction, mark: u64, slot: u32) -> u32
+    requires { slot < length table.now }
+    ensures { result ≡ slot_pinned eviction mark (at table.now slot) }
+{
+    match table.look(slot) {
+        None => 0,
+        Some(look) => {
+            if mark < look.meta.seqno {
+                table.blocks(slot)
+            } else if is_dropped(eviction, look.meta.deleted) {
+                0
+            } else {
+                table.key_blocks(slot)
+            }
+        }
+    }
+}
+
+/// The same, but of the node of one key nothing.
+fn pinned_beside(table: &Table, eviction: Eviction, mark: u64, slot: u32, key: &[u8]) -> u32
+    requires { slot < length table.now }
+    ensures { result ≡ cond (is_keyed key.now (at table.now slot)) 0 (slot_pinned eviction mark (at table.now slot)) }
+{
+    if table.has_key(slot, key) {
+        0
+    } else {
+        slot_pinned(table, eviction, mark, slot)
+    }
+}
+
+/// The blocks of the nodes of other keys that no ejecting frees. Its cost is linear in the number of slots.
+pub(crate) fn others_pinned(table: &Table, eviction: Eviction, mark: u64, key: &[u8]) -> u32
+    ensures { result ≡ others_pinned eviction mark key.now table.now }
+{
+    let _free = table.free();
+    let mut pinned = 0;
+    for slot in 0..table.count() {
+        pinned += pinned_beside(table, eviction, mark, slot, key);
+    }
+    pinned
+}
+
 /// Puts a document in place of its key's node, or into the first empty slot, where its blocks fit.
 pub(crate) fn put(table: &mut Table, key: &[u8], meta: Meta, value: &[u8])
     requires key { IsKey key.now }
@@ -121,30 +161,12 @@ pub(crate) fn put_ejected(table: &mut Table, key: &[u8], meta: Meta)
     }
 }
 
-/// One older, at most the greatest age.
-fn older(age: u8) -> u8
-    ensures { result ≡ min (age + 1) 3 }
-{
-    age.saturating_add(1).min(OLDEST)
-}
-
-/// Makes a slot's node one older.
-fn cool_slot(table: &mut Table, slot: u32)
-    requires { slot < length table.old }
-    ensures { table.new ≡ slice_set table.old slot (cooled (at table.old slot)) }
-{
-    match table.look(slot) {
-        None => {}
-        Some(look) => table.set_age(slot, older(look.age)),
-    }
-}
-
 /// Makes every node one older, at most 3.
 pub(crate) fn cool(table: &mut Table)
     ensures { table.new ≡ map cooled table.old }
 {
     for slot in 0..table.count() {
-        cool_slot(table, slot);
+        table.cool(slot);
     }
 }
 

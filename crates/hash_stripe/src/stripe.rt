@@ -48,15 +48,15 @@ impl Model for Stripe {
 }
 
 impl Stripe {
-    ghost use Rattle.std.specs.Prelude.{◌≡◌, ◌≢◌, ◌+◌, ◌-◌, ◌<◌, ◌≤◌, ◌++◌, [], true, false, length, drop, map, count_by, replicate, nat_lt, None, Some, is_err, is_some, IfOk, IfErr, OnOk, OnErr};
+    ghost use Rattle.std.specs.Prelude.{◌≡◌, ◌≢◌, ℕ, Option, ◌+◌, ◌-◌, ◌<◌, ◌≤◌, ◌++◌, [], true, false, length, drop, map, count_by, replicate, nat_lt, None, Some, is_err, is_some, IfOk, IfErr, OnOk, OnErr};
     ghost use Rattle.std.specs.Option.{ForSome};
     ghost use Rattle.value_pool.specs.Pools.{blocks_of};
     ghost use Rattle.ep_model.specs.Limits.{IsKey};
     ghost use Rattle.ep_model.specs.Config.{config_fault};
     ghost use Rattle.ep_model.specs.Stripes.{stripe_of};
-    ghost use Rattle.hash_stripe.specs.Nodes.{at, used, node_at, node_in, is_ejectable_slot, others_blocks, others_pinned, victim, EjectsOthers, Restores, placed, eject_slot, cooled, is_resident, is_ejected};
+    ghost use Rattle.hash_stripe.specs.Nodes.{NodeData, at, used, node_at, node_in, is_ejectable_slot, others_blocks, others_pinned, victim, EjectsOthers, Restores, placed, eject_slot, heated, cooled, is_resident, is_ejected};
     ghost use Rattle.hash_stripe.specs.Looks.{look_of};
-    ghost use Rattle.hash_stripe.specs.Stripes.{IsStripe, Fits, free_of, found, heated, key_of, key_len_of, meta_of, age_of, resident_value, text_of, at_key, IsAwayOf};
+    ghost use Rattle.hash_stripe.specs.Stripes.{IsStripe, Fits, IsSlot, free_of, found, key_of, key_len_of, meta_of, age_of, resident_value, text_of, at_key, IsAwayOf, IsShown};
 
     /// The stripe `index` of an active vBucket that hasn't opened, with no document. This call alone takes memory; its
     /// cost is linear in the number of the stripe's blocks.
@@ -86,7 +86,9 @@ impl Stripe {
 
     /// What a slot shows of a key's node.
     fn look(&self, key: &[u8]) -> Option<Look>
-        ensures { result ≡ look_of (node_at self.now.slots key.now) }
+        ensures shows { result ≡ look_of (node_at self.now.slots key.now) }
+        ensures sound { IsSlot self.now.index self.now.stripes self.now.eviction self.now.mark
+            (node_at self.now.slots key.now) }
     {
         match search::slot_of(&self.table, key) {
             None => None,
@@ -96,7 +98,11 @@ impl Stripe {
 
     /// What memory has under a key. Its cost is linear in the number of slots.
     pub fn find(&self, key: &[u8]) -> Found
-        ensures { result ≡ found (node_at self.now.slots key.now) }
+        ensures shows { result ≡ found (node_at self.now.slots key.now) }
+        ensures means { IsShown result (node_at self.now.slots key.now) }
+        ensures keyed { ForSome (node_at self.now.slots key.now) (λ (node : NodeData). node.key ≡ key.now) }
+        ensures sound { IsSlot self.now.index self.now.stripes self.now.eviction self.now.mark
+            (node_at self.now.slots key.now) }
     {
         match self.look(key) {
             None => Found::Nothing,
@@ -121,7 +127,7 @@ impl Stripe {
         ensures { self.new ≡ record self.old { slots = at_key heated self.old.slots key.now } }
     {
         if let Some(slot) = search::slot_of(&self.table, key) {
-            self.table.set_age(slot, 0);
+            self.table.heat(slot);
         }
     }
 
@@ -225,6 +231,7 @@ impl Stripe {
           slots = placed self.old.slots
               (record { key = key.now; meta = meta; value = None; age = 0 });
         }) }
+        ensures fits { OnOk result (Fits key.now (blocks_of (length key.now)) self.old.slots) }
         ensures err { OnErr result (self.new ≡ self.old) }
         ensures numbers { IfErr result (λ short. (short.free ≡ free_of self.old) × (short.need ≡ blocks_of (length key.now))) }
     {
@@ -292,8 +299,30 @@ impl Stripe {
     pub fn free(&self) -> u32
         ensures free { result ≡ free_of self.now }
         ensures sound { IsStripe self.now }
+        ensures keys { (slot : Option ℕ) → length (key_of (node_in self.now.slots slot)) ≤ 250 }
     {
         self.table.free()
+    }
+
+    /// How many blocks the stripe has.
+    pub fn blocks(&self) -> u32
+        ensures { result ≡ length self.now.slots }
+    {
+        self.table.count()
+    }
+
+    /// What is left in memory of a document that is ejected.
+    pub fn eviction(&self) -> Eviction
+        ensures { result ≡ self.now.eviction }
+    {
+        self.eviction
+    }
+
+    /// How many blocks of other keys' documents no ejecting frees. Its cost is linear in the number of slots.
+    pub fn pinned(&self, key: &[u8]) -> u32
+        ensures { result ≡ others_pinned self.now.eviction self.now.mark key.now self.now.slots }
+    {
+        room::others_pinned(&self.table, self.eviction, self.mark, key)
     }
 
     /// How many documents have their value in memory, and how many don't. Its cost is linear in the number of slots.

@@ -1,10 +1,11 @@
 // Nodes in slots, with their bytes in a pool.
 ghost use Rattle.std.specs.Prelude.{◌≡◌, ◌+◌, ◌≤◌, ◌++◌, length, take, drop, MatchOption};
 ghost use Rattle.value_pool.specs.Pools.{blocks_of, bytes_at, Puts, TakesBack};
+ghost use Rattle.stored_value.specs.Ages.{older};
 
 use crate::found::Look;
 use ep_model::limits::MAX_KEY;
-use ep_model::{Meta, NoMemory, Out};
+use ep_model::{Meta, NoMemory, Out, rules};
 use std::alloc::Global;
 use std::marker::Model;
 use stored_value::{Node, Slots};
@@ -33,9 +34,9 @@ impl Table {
     ghost use Rattle.std.specs.Prelude.{◌≡◌, ◌+◌, ◌<◌, ◌≤◌, ◌++◌, length, drop, None, Some, IfOk, slice_set, replicate};
     ghost use Rattle.std.specs.Option.{ForSome};
     ghost use Rattle.ep_model.specs.Limits.{IsKey};
-    ghost use Rattle.hash_stripe.specs.Nodes.{used, at, slot_blocks, is_keyed, first_empty};
+    ghost use Rattle.hash_stripe.specs.Nodes.{used, at, slot_blocks, is_keyed, first_empty, heated, cooled};
     ghost use Rattle.value_pool.specs.Pools.{all_free};
-    ghost use Rattle.hash_stripe.specs.Looks.{look_of, aged, without_value};
+    ghost use Rattle.hash_stripe.specs.Looks.{look_of, without_value};
     ghost use Rattle.hash_stripe.specs.Stripes.{key_of, key_len_of, resident_value, text_of};
 
     /// So many empty slots, and as many free blocks. Its cost is linear in their number.
@@ -120,6 +121,17 @@ impl Table {
         }
     }
 
+    /// How many blocks the key of a slot's node takes.
+    pub(crate) fn key_blocks(&self, slot: u32) -> u32
+        requires { slot < length self.now }
+        ensures { result ≡ blocks_of (length (key_of (at self.now slot))) }
+    {
+        match self.slots.node(slot) {
+            None => 0,
+            Some(node) => chain_blocks(&self.pool, &node.key),
+        }
+    }
+
     /// Appends the key of a slot's node.
     pub(crate) fn key_to(&self, slot: u32, out: &mut Out)
         requires slot { slot < length self.now }
@@ -159,14 +171,27 @@ impl Table {
         }
     }
 
-    /// Sets the age of a slot's node.
-    pub(crate) fn set_age(&mut self, slot: u32, age: u8)
+    /// Notes that a slot's document is used.
+    pub(crate) fn heat(&mut self, slot: u32)
         requires { slot < length self.old }
-        ensures { self.new ≡ slice_set self.old slot (aged age (at self.old slot)) }
+        ensures { self.new ≡ slice_set self.old slot (heated (at self.old slot)) }
     {
         match self.slots.swap(slot, None) {
             Some(node) => {
-                let _ = self.slots.swap(slot, Some(with_age(node, age)));
+                let _ = self.slots.swap(slot, Some(heated(node)));
+            }
+            None => {}
+        }
+    }
+
+    /// Makes a slot's node one older.
+    pub(crate) fn cool(&mut self, slot: u32)
+        requires { slot < length self.old }
+        ensures { self.new ≡ slice_set self.old slot (cooled (at self.old slot)) }
+    {
+        match self.slots.swap(slot, None) {
+            Some(node) => {
+                let _ = self.slots.swap(slot, Some(cooled(node)));
             }
             None => {}
         }
@@ -240,18 +265,29 @@ impl Table {
     }
 }
 
-/// The node with another age.
-fn with_age(node: Node<Chain>, age: u8) -> Node<Chain>
-    ensures { result ≡ record node { age = age } }
+/// The node as it is when its document is used.
+fn heated(node: Node<Chain>) -> Node<Chain>
+    ensures { result ≡ record node { age = 0 } }
 {
-    Node { age, ..node }
+    let mut node = node;
+    node.heat();
+    node
+}
+
+/// The node one older.
+fn cooled(node: Node<Chain>) -> Node<Chain>
+    ensures { result ≡ record node { age = older node.age } }
+{
+    let mut node = node;
+    node.cool();
+    node
 }
 
 /// How many blocks a chain takes.
 fn chain_blocks(pool: &Pool, chain: &Chain) -> u32
     ensures { result ≡ blocks_of (length (bytes_at pool.now chain.now)) }
 {
-    pool.len(chain).div_ceil(128)
+    rules::blocks(pool.len(chain) as usize) as u32
 }
 
 /// How many blocks a node's value takes.
