@@ -12,13 +12,13 @@ use Rattle.ep_model.specs.declared.data.CheckpointsData.{CheckpointsData}
 use Rattle.ep_model.specs.declared.data.EventData.{EventData}
 use Rattle.ep_model.specs.declared.data.EventData.TheVariants.{Called, Refused, Expired, Persisted, Marked, Asked, ReadFailed, Opened}
 use Rattle.ep_model.specs.declared.data.FrontData.{FrontData}
-use Rattle.ep_model.specs.World.{Doc, World}
+use Rattle.ep_model.specs.World.{Doc, World, Item}
 use Rattle.ep_model.specs.Answer.{Effect, Nothing, Puts, Sets, apply}
 use Rattle.ep_model.specs.History.{call_effect, step, after}
 use Rattle.ep_model.specs.Mutations.{mutation_of, mutations, above}
 use Rattle.ep_model.specs.Front.{begun, world_of, with_event, with_events}
 use Rattle.ep_model.specs.Legal.{May, AreLegal, IsLegal}
-use Rattle.ep_model.specs.Checkpoints.{Item, Checkpoint, Checkpoints, first_checkpoints, then_opened, closed_at, has_item, but_item, queued, queued_if, cut_after, cut_in, cut, all_items, items_above}
+use Rattle.ep_model.specs.Checkpoints.{Checkpoint, Checkpoints, first_checkpoints, then_opened, closed_at, has_item, but_item, queued, queued_if, cut_after, cut_in, cut, all_items, items_above}
 use Rattle.hold_stage.specs.Histories.{last_of, OpenIsUnstored, KeptAreLast}
 use Rattle.hold_stage.proofs.Mutations.{IsNextPut, mutation_is_next, IsPut, step_is_put, step_rises}
 use Rattle.hold_stage.proofs.Later.{world_step, more_events, all_append}

@@ -15,13 +15,12 @@ use Rattle.ep_model.specs.declared.data.CallData.{CallData}
 use Rattle.ep_model.specs.declared.data.EventData.{EventData}
 use Rattle.ep_model.specs.declared.data.EventData.TheVariants.{Called, Refused, Expired, Persisted, Marked, Asked, ReadFailed, Opened}
 use Rattle.ep_model.specs.declared.data.FrontData.{FrontData}
-use Rattle.ep_model.specs.World.{Doc, Docs, World}
+use Rattle.ep_model.specs.World.{Doc, Docs, World, Item}
 use Rattle.ep_model.specs.Answer.{Effect, Nothing, Puts, Sets, apply}
 use Rattle.ep_model.specs.History.{call_effect, step, after, upto}
 use Rattle.ep_model.specs.Mutations.{mutation_of, mutations, above, laid_on}
 use Rattle.ep_model.specs.Front.{begun, started, world_of, with_event, with_events, mark_after, marked}
 use Rattle.ep_model.specs.Legal.{IsBelow, IsNoFault, May, AreLegal, IsLegal}
-use Rattle.ep_model.specs.Checkpoints.{Item}
 use Rattle.ep_model.proofs.HistoryLemmas.{legal-front}
 use Rattle.hold_stage.specs.Touches.{is_desks}
 use Rattle.hold_stage.specs.Histories.{puts_of, world_at, IsReached, TicketsDiffer, IsBounded, LegalIsBounded, HasRisen, NumbersRise, AreNumbered, MutationsAreNumbered, UptoStays, DocsStay, NoDocsStay, last_of, IsBatchAbove, BatchLaw, HasNumbersWithin, NumbersStayWithin, LeavesDesk, OthersLeaveDesk}

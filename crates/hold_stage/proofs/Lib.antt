@@ -13,5 +13,7 @@ pub mod WentLemmas
 pub mod RisesLemmas
 pub mod DeskLemmas
 pub mod OwnLemmas
+pub mod WaitLemmas
+pub mod ApartLemmas
 pub mod HistoryLemmas
 pub mod CheckpointLemmas

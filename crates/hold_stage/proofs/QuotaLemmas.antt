@@ -16,7 +16,7 @@ use Rattle.ep_model.specs.declared.data.CallData.{CallData}
 use Rattle.ep_model.specs.declared.data.EventData.{EventData}
 use Rattle.ep_model.specs.declared.data.EventData.TheVariants.{Called, Refused, Expired, Persisted, Marked, Asked, ReadFailed, Opened}
 use Rattle.ep_model.specs.declared.data.FrontData.{FrontData}
-use Rattle.ep_model.specs.World.{Doc, Docs, World}
+use Rattle.ep_model.specs.World.{Doc, Docs, World, Item}
 use Rattle.ep_model.specs.Stripes.{stripe_of}
 use Rattle.ep_model.specs.Answer.{Effect, Nothing, Puts, Sets, Answer, answer}
 use Rattle.ep_model.specs.History.{step, after}
@@ -24,7 +24,7 @@ use Rattle.ep_model.specs.Calls.{key_of, written_key}
 use Rattle.ep_model.specs.Mutations.{put_by, mutation_of}
 use Rattle.ep_model.specs.Needs.{needs}
 use Rattle.ep_model.specs.Front.{begun, world_of, with_event, with_events, marked}
-use Rattle.ep_model.specs.Checkpoints.{Item, Checkpoints, first_checkpoints, queued, queued_if, cut_after, cut_in, cut, items_above, item_blocks}
+use Rattle.ep_model.specs.Checkpoints.{Checkpoints, first_checkpoints, queued, queued_if, cut_after, cut_in, cut, items_above, item_blocks}
 use Rattle.ep_model.specs.Quota.{is_other, others_in, pinned_sum, pinned, blocks_if, standing_blocks, need, is_full, is_overfull, is_short}
 use Rattle.ep_model.proofs.EffectLemmas.{IsDone, answer_done}
 use Rattle.hold_stage.specs.Touches.{holds_key, is_queue, touches_call, touches}

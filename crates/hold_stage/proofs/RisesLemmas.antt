@@ -14,6 +14,7 @@ use Rattle.hold_stage.proofs.Later.{world_step, more_events, opened_later, persi
 use Rattle.hold_stage.proofs.Bounds.{legal_bounds, marked_step}
 use Rattle.hold_stage.proofs.Mutations.{step_rises}
 use Rattle.hold_stage.proofs.GrowsLemmas.{nothing_more}
+use Rattle.hold_stage.specs.Histories.{UnopenedIsStart}
 
 -- the last event of a legal history may happen where it stands, and the history before it is legal
 pub may_of : (f : FrontData) (event : EventData) → IsLegal (with_event f event) → May f event
@@ -68,9 +69,9 @@ pub marks_low : (f : FrontData) (stripe : ℕ) → IsLegal f → (started f.star
 unfolding IsLegal
 marks_low f stripe legal = marks_along (record f { events = [] }) f.events stripe (omega arith) legal
 
--- nothing but the start is stored before the vBucket opened
+-- nothing but the start is stored or there before the vBucket opened
 abbrev IsClosed : FrontData → Type 0
-IsClosed f = (world_of f).opened ≡ false → (world_of f).persisted ≡ (started f.start).high
+IsClosed f = (world_of f).opened ≡ false → ((world_of f).persisted ≡ (started f.start).high) × ((world_of f).high ≡ (started f.start).high)
 
 stored_closed : (f : FrontData) (event : EventData) → (world_of f).opened ≡ false → May f event → (step (world_of f) event).persisted ≡ (world_of f).persisted
 unfolding May
@@ -83,28 +84,54 @@ stored_closed f (Asked ticket caller call) closed may = refl
 stored_closed f (ReadFailed ticket fault) closed may = refl
 stored_closed f Opened closed may = refl
 
+high_closed : (f : FrontData) (event : EventData) → (world_of f).opened ≡ false → May f event → (step (world_of f) event).high ≡ (world_of f).high
+unfolding May
+high_closed f (Called caller call now reply value) closed may = absurd (let h = may.opened in cc)
+high_closed f (Refused caller call now cause) closed may = refl
+high_closed f (Expired key now) closed may = absurd (let h = may.serving.opened in cc)
+high_closed f (Persisted number) closed may = refl
+high_closed f (Marked stripe number) closed may = refl
+high_closed f (Asked ticket caller call) closed may = refl
+high_closed f (ReadFailed ticket fault) closed may = refl
+high_closed f Opened closed may = refl
+
 closed_before : (f : FrontData) (event : EventData) (t : Bool) → (world_of f).opened ≡ t → (world_of (with_event f event)).opened ≡ false → (world_of f).opened ≡ false
 closed_before f event true e closed = absurd (let h = opened_stays f event e in cc)
 closed_before f event false e closed = e
 
 closed_step : (f : FrontData) (event : EventData) → IsClosed f → May f event → IsClosed (with_event f event)
 closed_step f event c may closed =
-    let before = closed_before f event (world_of f).opened refl closed in
-    ap (λ (w : World). w.persisted) (world_step f event) ∙ stored_closed f event before may ∙ c before
+    let before = closed_before f event (world_of f).opened refl closed in (
+      ap (λ (w : World). w.persisted) (world_step f event) ∙ stored_closed f event before may ∙ (c before).0,
+      ap (λ (w : World). w.high) (world_step f event) ∙ high_closed f event before may ∙ (c before).1,
+    )
 
 closed_along : (f : FrontData) (events : List EventData) → IsClosed f → AreLegal f events → IsClosed (with_events f events)
 unfolding AreLegal
 closed_along f [] c legal = subst IsClosed (let e : f ≡ with_events f [] = sym (nothing_more f) in e) c
 closed_along f (event ∷ events) c legal = subst IsClosed (more_events f event events) (closed_along (with_event f event) events (closed_step f event c legal.0) legal.1)
 
-closed_at : (f : FrontData) (t : Bool) → (world_of f).opened ≡ t → IsClosed f → (started f.start).high < (world_of f).persisted → (world_of f).opened ≡ true
+closed_at : (f : FrontData) (t : Bool) → (world_of f).opened ≡ t → IsClosed f → (started f.start).high < (world_of f).high → (world_of f).opened ≡ true
 closed_at f true e c more = e
-closed_at f false e c more = absurd (let h = c e in omega arith)
+closed_at f false e c more = absurd (let h = (c e).1 in omega arith)
+
+pub unopened_is_start : UnopenedIsStart
+unfolding IsLegal
+unopened_is_start f legal closed =
+    let c = closed_along (record f { events = [] }) f.events (λ _. (refl, refl)) legal closed in (c.1, c.0)
+
+-- where there is more than at the start, the vBucket has opened
+pub opened_high : (f : FrontData) → IsLegal f → (started f.start).high < (world_of f).high → (world_of f).opened ≡ true
+unfolding IsLegal
+opened_high f legal more = closed_at f (world_of f).opened refl (closed_along (record f { events = [] }) f.events (λ _. (refl, refl)) legal) more
+
+-- A vBucket of which not all is stored has opened.
+pub opened_unstored : (f : FrontData) → IsLegal f → (world_of f).persisted < (world_of f).high → (world_of f).opened ≡ true
+opened_unstored f legal below = opened_high f legal (let low = started_low f legal in omega arith)
 
 -- where more is stored than there was at the start, the vBucket has opened
 pub opened_stored : (f : FrontData) → IsLegal f → (started f.start).high < (world_of f).persisted → (world_of f).opened ≡ true
-unfolding IsLegal
-opened_stored f legal more = closed_at f (world_of f).opened refl (closed_along (record f { events = [] }) f.events (λ _. refl) legal) more
+opened_stored f legal more = opened_high f legal (let b = (legal_bounds f legal).stored in omega arith)
 
 -- A stripe that doesn't know all that is stored is one of a vBucket that has opened.
 pub opened_unmarked : (f : FrontData) (stripe : ℕ) → IsLegal f → marked f stripe < (world_of f).persisted → (world_of f).opened ≡ true

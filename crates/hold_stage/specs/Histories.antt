@@ -9,12 +9,12 @@ use Rattle.ep_model.specs.declared.data.CallData.{CallData}
 use Rattle.ep_model.specs.declared.data.EventData.{EventData}
 use Rattle.ep_model.specs.declared.data.EventData.TheVariants.{Asked}
 use Rattle.ep_model.specs.declared.data.FrontData.{FrontData}
-use Rattle.ep_model.specs.World.{Doc, World}
+use Rattle.ep_model.specs.World.{Doc, World, Item}
 use Rattle.ep_model.specs.History.{upto}
 use Rattle.ep_model.specs.Mutations.{mutations, above, laid_on}
 use Rattle.ep_model.specs.Front.{begun, started, world_of, with_event, with_events, marked}
 use Rattle.ep_model.specs.Legal.{IsNoFault, IsLegal}
-use Rattle.ep_model.specs.Checkpoints.{Item, cut, kept}
+use Rattle.ep_model.specs.Checkpoints.{cut, kept}
 use Rattle.hold_stage.specs.Touches.{is_desks}
 
 -- what a front has put, and its world at a number
@@ -51,6 +51,11 @@ pub record HasRisen (f g : FrontData) : Type 0 where
 
 abbrev pub NumbersRise : Type 0
 NumbersRise = (f : FrontData) (more : List EventData) → IsLegal (with_events f more) → HasRisen f (with_events f more)
+
+-- Before it opens a legal history has what it starts with: nothing is put, and nothing more is stored.
+abbrev pub UnopenedIsStart : Type 0
+UnopenedIsStart = (f : FrontData) → IsLegal f → (world_of f).opened ≡ false
+    → ((world_of f).high ≡ (started f.start).high) × ((world_of f).persisted ≡ (started f.start).high)
 
 -- Mutations are numbered one after the other, without gaps.
 abbrev pub AreNumbered : ℕ → List Item → Type 0

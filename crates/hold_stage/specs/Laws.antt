@@ -8,7 +8,7 @@ use Rattle.ep_model.specs.Front.{with_events, with_start}
 use Rattle.ep_model.specs.Legal.{May, IsLegal}
 use Rattle.hold_stage.specs.Touches.{touches, is_of, is_call}
 use Rattle.hold_stage.specs.Grows.{Among, Covered, Quiet, Grown, Keeps}
-use Rattle.hold_stage.specs.Went.{Leaves, Went, own_events, own_of}
+use Rattle.hold_stage.specs.Went.{LeavesPart, Went, own_events, own_of}
 
 -- An event that is legal behind a front is legal behind a longer history too, where no event in between touches a part
 -- that this one touches, or is of its caller.
@@ -73,7 +73,7 @@ abbrev pub WentOwn : Type 0
 WentOwn = (f g : FrontData) (held : PartName → Bool) (caller : ℕ) (desk : Bool) (event : Option EventData) → Went f g held caller desk event
     → own_events caller g.events ≡ own_events caller f.events ++ own_of caller event
 
--- What is held and isn't touched by a call's event stands on.
+-- What is held, and isn't touched by a call's event as far as the caller knew before, stands on.
 abbrev pub WentKeeps : {P : Type 0} → (PartName → FrontData → P → Type 0) → Type 0
-WentKeeps {P} stands = (f g : FrontData) (held : PartName → Bool) (caller : ℕ) (desk : Bool) (event : Option EventData) → (went : Went f g held caller desk event)
-    → (p : PartName) (x : P) → held p ≡ true → Leaves went.between event p → stands p f x → stands p g x
+WentKeeps {P} stands = (f g : FrontData) (held : PartName → Bool) (caller : ℕ) (desk : Bool) (event : Option EventData) → Went f g held caller desk event
+    → (p : PartName) (x : P) → held p ≡ true → LeavesPart f event p → stands p f x → stands p g x

@@ -1,9 +1,9 @@
 -- What became of a document that somebody waits for.
-use Rattle.std.specs.Prelude.{ℕ, Bool, false, not, ◌==◌, ◌&&◌, ◌||◌, List, [], ◌∷◌, Option, Some, None}
+use Rattle.std.specs.Prelude.{◌≡◌, ℕ, Bool, false, not, ◌==◌, ◌&&◌, ◌||◌, List, [], ◌∷◌, Option, Some, None}
 use Rattle.std.specs.Str.{bytes_eq}
 use Rattle.ep_model.specs.declared.event.Ticket.{Ticket}
 use Rattle.ep_model.specs.declared.data.EventData.{EventData}
-use Rattle.ep_model.specs.declared.data.EventData.TheVariants.{Asked}
+use Rattle.ep_model.specs.declared.data.EventData.TheVariants.{Asked, ReadFailed}
 use Rattle.ep_model.specs.declared.data.FrontData.{FrontData}
 use Rattle.ep_model.specs.World.{Doc, World}
 use Rattle.ep_model.specs.History.{step}
@@ -35,3 +35,8 @@ waits_in ticket key waits w (event ∷ events) = waits_in ticket key (waits_afte
 -- whether this key was asked for at this ticket and its document has not changed since
 unfoldable pub is_waiting : FrontData → Ticket → List ℕ → Bool
 is_waiting f ticket key = waits_in ticket key false (begun f) f.events
+
+-- the event is no failed read for the ticket
+abbrev pub IsNoRead : Ticket → EventData → Type 0
+IsNoRead ticket (ReadFailed other fault) = (other ≡ ticket) → ⊥
+IsNoRead ticket event = Unit {0}

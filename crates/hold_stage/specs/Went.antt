@@ -9,16 +9,22 @@ use Rattle.hold_stage.specs.Touches.{touches, is_of, bytes_of}
 use Rattle.hold_stage.specs.Grows.{Grown}
 
 -- a front with an event more, or with none
-abbrev pub noted : FrontData → Option EventData → FrontData
-noted f None = f
-noted f (Some event) = with_event f event
+abbrev pub with_noted : FrontData → Option EventData → FrontData
+with_noted f None = f
+with_noted f (Some event) = with_event f event
+
+-- there is no such event, or it touches the same parts behind one front as behind the other
+abbrev pub TouchesSame : FrontData → FrontData → Option EventData → Type 0
+TouchesSame f g None = Unit {0}
+TouchesSame f g (Some event) = (p : PartName) → touches g event p ≡ touches f event p
 
 -- The front grew by events that whoever holds these parts doesn't notice, and then, once and last, by this event, or by
--- none. It is legal.
+-- none, which touches what it would have touched before. It is legal.
 pub record Went (f g : FrontData) (held : PartName → Bool) (caller : ℕ) (desk : Bool) (event : Option EventData) : Type 0 where
   pub between : FrontData
   pub grown : Grown f between held caller desk
-  pub last : g ≡ noted between event
+  pub touched : TouchesSame f between event
+  pub last : g ≡ with_noted between event
   pub legal : IsLegal g
 
 -- what is left of a stage's room once this event was noted, or none
@@ -34,9 +40,9 @@ abbrev pub own_of : ℕ → Option EventData → List EventData
 own_of caller event = own_events caller (option_to_list event)
 
 -- there is no such event, or it doesn't touch the part
-abbrev pub Leaves : FrontData → Option EventData → PartName → Type 0
-Leaves f None p = Unit {0}
-Leaves f (Some event) p = touches f event p ≡ false
+abbrev pub LeavesPart : FrontData → Option EventData → PartName → Type 0
+LeavesPart f None p = Unit {0}
+LeavesPart f (Some event) p = touches f event p ≡ false
 
 -- a part that an event doesn't touch stands on behind it
 abbrev pub KeepsUntouched : {P : Type 0} → (PartName → FrontData → P → Type 0) → Type 0

@@ -1,17 +1,19 @@
 //! What is true of every legal history, whether its documents are known or not. Each function does nothing: its contract
 //! is the law.
-ghost use Rattle.hold_stage.specs.Histories.{TicketsDiffer, LegalIsBounded, NumbersRise, MutationsAreNumbered, UptoStays, DocsStay, NoDocsStay, BatchLaw, NumbersStayWithin, OthersLeaveDesk, OpenIsUnstored, KeptAreLast};
+ghost use Rattle.hold_stage.specs.Histories.{TicketsDiffer, LegalIsBounded, NumbersRise, UnopenedIsStart, MutationsAreNumbered, UptoStays, DocsStay, NoDocsStay, BatchLaw, NumbersStayWithin, OthersLeaveDesk, OpenIsUnstored, KeptAreLast};
 
 /// Each ask has a ticket of its own.
 pub fn tickets_differ()
     ensures { TicketsDiffer }
 {}
 
-/// What is marked is stored, what is stored was put, and none of these numbers falls. Mutations are numbered without
+/// What is marked is stored, what is stored was put, and none of these numbers falls, nor do they rise before the
+/// vBucket opens. Mutations are numbered without
 /// gaps, and where the start's documents are within its greatest numbers all documents are.
 pub fn numbers_are_bounded()
     ensures bounded { LegalIsBounded }
     ensures rise { NumbersRise }
+    ensures unopened { UnopenedIsStart }
     ensures numbered { MutationsAreNumbered }
     ensures within { NumbersStayWithin }
 {}

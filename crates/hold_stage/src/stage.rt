@@ -84,7 +84,7 @@ pub trait Stage {
         ensures taken { MatchResult result (λ x. Self.Part.stands part (front self.new) x × (losses self.new ≡ losses self.old)) (λ b. (b.part ≡ part) × Rose (losses self.old) (losses self.new)) }
         ensures held { MatchResult result (λ _. Same (holds self.new) (and_this part (holds self.old))) (λ _. Same (holds self.new) (holds self.old)) }
         ensures alone { is_telling self.old ≡ true → front self.new ≡ front self.old }
-        ensures told { is_telling self.old ≡ true → MatchResult result (λ x. tells self.old part ≡ Some x) (λ _. tells self.old part ≡ None) }
+        ensures was_there { is_telling self.old ≡ true → MatchResult result (λ x. tells self.old part ≡ Some x) (λ _. tells self.old part ≡ None) }
         ensures tells { is_telling self.old ≡ true → (p : PartName) → there (front self.old).config p ≡ true → tells self.new p ≡ (if same_part part p then None else tells self.old p) };
 
     /// Notes an event, which then stands last. Every part that it touches is held, it may happen behind the front,

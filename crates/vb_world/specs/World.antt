@@ -1,34 +1,20 @@
 -- What a world is: where the parts of its vBuckets are, and what is known of their histories.
-use Rattle.std.specs.Prelude.{◌≡◌, ℕ, zero, suc, ◌+◌, ◌-◌, ◌^◌, min, ◌<◌, ◌≤◌, Bool, false, not, ◌==◌, nat_lt, if◌then◌else◌, List, [], ◌∷◌, ◌++◌, length, map, filter, take, drop, slice_get, slice_set, Option, Some, None}
+use Rattle.std.specs.Prelude.{◌≡◌, ℕ, zero, suc, ◌+◌, ◌-◌, ◌^◌, min, ◌<◌, ◌≤◌, Bool, false, not, ◌==◌, if◌then◌else◌, List, [], ◌∷◌, ◌++◌, length, map, filter, take, drop, slice_get, slice_set, Option, Some, None}
 use Rattle.std.specs.List.{AllByRecursion}
 use Rattle.ep_model.specs.declared.config.Config.{Config}
 use Rattle.ep_model.specs.declared.event.PartName.{PartName}
-use Rattle.ep_model.specs.declared.event.PartName.TheVariants.{Stripe, Queue, Desk}
 use Rattle.ep_model.specs.declared.data.EventData.{EventData}
 use Rattle.ep_model.specs.declared.data.FrontData.{FrontData}
 use Rattle.ep_model.specs.declared.data.StartData.{StartData}
 use Rattle.ep_model.specs.Legal.{IsLegal}
 use Rattle.hold_stage.specs.Touches.{there}
+pub use Rattle.hold_stage.specs.Slots.{slot_of, name_of, bare_front, StandBare}
 use Rattle.vb_world.specs.declared.place.Place.{Place}
 use Rattle.vb_world.specs.declared.place.Place.TheVariants.{Home, Out}
 use Rattle.vb_world.specs.declared.data.BucketData.{BucketData}
 use Rattle.vb_world.specs.declared.data.WorldData.{WorldData}
 use Rattle.vb_world.specs.declared.data.FixedData.{FixedData}
 use Rattle.vb_world.specs.History.{events_of}
-
--- which place of its vBucket a part has
-abbrev pub slot_of : Config → PartName → ℕ
-slot_of config (Stripe stripe) = stripe
-slot_of config Queue = config.stripes
-slot_of config Desk = config.stripes + 1
-
--- and which part has a place
-abbrev pub name_of : Config → ℕ → PartName
-name_of config slot = if nat_lt slot config.stripes then Stripe slot else (if slot == config.stripes then Queue else Desk)
-
--- a history of this vBucket in which nothing is known to have happened
-abbrev pub bare_front : Config → ℕ → FrontData
-bare_front config id = record { config = config; id = id; start = None; events = [] }
 
 abbrev pub start_of : {P : Type 0} → Option (BucketData P) → Option StartData
 start_of None = None
@@ -94,10 +80,6 @@ with_bucket world parts = record world { buckets = world.buckets ++ bucket_of pa
 
 abbrev pub empty_world : {P : Type 0} → Config → WorldData P
 empty_world config = record { config = config; history = []; buckets = []; losses = 0; event_room = 0; byte_room = 0 }
-
--- these parts, in the order of their places, stand for a history in which nothing is known to have happened
-abbrev pub StandBare : {P : Type 0} → (PartName → FrontData → P → Type 0) → Config → ℕ → List P → Type 0
-StandBare {P} stands config id parts = (slot : ℕ) (x : P) → slice_get parts slot ≡ Some x → stands (name_of config slot) (bare_front config id) x
 
 -- What is true of every world.
 pub record Sound {P : Type 0} (stands : PartName → FrontData → P → Type 0) (world : WorldData P) : Type 0 where
