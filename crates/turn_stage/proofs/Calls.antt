@@ -11,13 +11,14 @@ use Rattle.ep_model.specs.Front.{with_event}
 use Rattle.ep_model.specs.Legal.{May, IsLegal}
 use Rattle.hold_stage.specs.Touches.{there, touches}
 use Rattle.turn_stage.specs.declared.data.View.{View}
-use Rattle.turn_stage.specs.Slots.{slot_of, has, without}
+use Rattle.hold_stage.specs.Slots.{slot_of}
+use Rattle.turn_stage.specs.Slots.{has, without_part}
 use Rattle.std.specs.List.{AllByRecursion}
 use Rattle.hold_stage.specs.Grows.{Grown}
 use Rattle.turn_stage.specs.declared.data.JoinData.{JoinData}
 use Rattle.turn_stage.specs.Passes.{Joined}
 use Rattle.turn_stage.specs.Rule.{IsLonger, Turned}
-use Rattle.turn_stage.specs.Plays.{part_of, Won, Tried, PutDown, PickedUp, Gave, Told, longer, joined}
+use Rattle.turn_stage.specs.Plays.{part_of, Won, Tried, PutDown, PickedUp, Gave, Told, longer, joined_view}
 use Rattle.turn_stage.specs.Seats.{IsResting, Taken, Missed}
 use Rattle.turn_stage.proofs.Parts.{same_itself}
 use Rattle.turn_stage.proofs.Steps.{tries, puts_down, picks_up, gives_back, named}
@@ -124,7 +125,7 @@ module _ {P : Type 0} (stands : PartName → FrontData → P → Type 0) (keep :
       (gives_back stands keep slots id (record m.0 { hand = Some part }) m.1 part x rests.live refl held here fine))
 
   pub record GaveIt (part : PartName) (m q : Me (Option P) View) : Type 0 where
-    pub given : q.0 ≡ record m.0 { held = without part m.0.held }
+    pub given : q.0 ≡ record m.0 { held = without_part part m.0.held }
     pub rests : IsResting q
 
   pub gave : (slots : ℕ) (m n p q : Me (Option P) View) (part : PartName) (slot : ℕ) (x : P) → IsResting m → slot ≡ slot_of m.0.front.config part → there m.0.front.config part ≡ true
@@ -132,9 +133,9 @@ module _ {P : Type 0} (stands : PartName → FrontData → P → Type 0) (keep :
   gave slots m n p q part slot x rests at here picked is given =
       let e = back slots m n p part slot x at here picked is in
       let which : part_of (step {S = Option P} slots (slot + 1) 0 0 none) p.0 ≡ part = ap (λ (r : Me (Option P) View). part_of (step {S = Option P} slots (slot + 1) 0 0 none) r.0) e ∙ named_at slots 0 0 slot m.0 part at here in
-      let view : q ≡ (record m.0 { hand = None; held = without part m.0.held }, m.1) = given ∙ (λ i. (record (e i).0 { hand = None; held = without (which i) (e i).0.held }, rest (e i).1)) in
+      let view : q ≡ (record m.0 { hand = None; held = without_part part m.0.held }, m.1) = given ∙ (λ i. (record (e i).0 { hand = None; held = without_part (which i) (e i).0.held }, rest (e i).1)) in
       record {
-        given = ap (λ (r : Me (Option P) View). r.0) view ∙ ap (λ (h : Option PartName). record m.0 { hand = h; held = without part m.0.held }) (sym rests.hand);
+        given = ap (λ (r : Me (Option P) View). r.0) view ∙ ap (λ (h : Option PartName). record m.0 { hand = h; held = without_part part m.0.held }) (sym rests.hand);
         rests = record {
           carried = ap (λ (r : Me (Option P) View). r.1) view ∙ rests.carried;
           hand = ap (λ (r : Me (Option P) View). r.0.hand) view;
@@ -143,13 +144,13 @@ module _ {P : Type 0} (stands : PartName → FrontData → P → Type 0) (keep :
       }
 
 module _ {P : Type 0} where
-  pub joined_at : (m n r : Me (Option P) View) (w : View) → n ≡ (joined m.0 w, m.1) → Told n r → Joined m.0 w r.0
+  pub joined_at : (m n r : Me (Option P) View) (w : View) → n ≡ (joined_view m.0 w, m.1) → Told n r → Joined m.0 w r.0
   joined_at m n r w e told =
       let longer_is = (subst (λ (x : Me (Option P) View). AllByRecursion IsLonger x.0.last) e told.all).0 in
-      let view : r.0 ≡ record (joined m.0 w) { last = [] } = ap (λ (x : Me (Option P) View). x.0) told.is ∙ ap (λ (x : Me (Option P) View). record x.0 { last = [] }) e in
+      let view : r.0 ≡ record (joined_view m.0 w) { last = [] } = ap (λ (x : Me (Option P) View). x.0) told.is ∙ ap (λ (x : Me (Option P) View). record x.0 { last = [] }) e in
       let front : r.0.front ≡ longer m.0.front w.front = ap (λ (x : View). x.front) view in
       record {
-        is = view ∙ ap (λ (l : List JoinData). record (joined m.0 w) { last = l }) (sym (ap (λ (x : View). x.last) view));
+        is = view ∙ ap (λ (l : List JoinData). record (joined_view m.0 w) { last = l }) (sym (ap (λ (x : View). x.last) view));
         one = ⊎_elim (λ k. inl (front ∙ k)) (λ k. inr (front ∙ k)) longer_is.one;
         grown = subst (λ (f : FrontData). Grown m.0.front f (λ _. false) m.0.caller m.0.desk) (sym front) longer_is.grown;
         other = subst (λ (f : FrontData). Grown w.front f (λ _. false) w.caller w.desk) (sym front) longer_is.other;

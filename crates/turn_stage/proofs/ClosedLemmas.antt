@@ -17,7 +17,7 @@ use Rattle.hold_stage.specs.Grows.{Same, and_this, Covered, Noted}
 use Rattle.hold_stage.proofs.Later.{world_step}
 use Rattle.hold_stage.proofs.OwnLemmas.{holds_stripe, taken_held}
 use Rattle.turn_stage.specs.Closed.{IsClosed}
-use Rattle.turn_stage.specs.Parts.{bare_front}
+use Rattle.hold_stage.specs.Slots.{bare_front}
 
 pub closed_bare : (config : Config) (vb : ℕ) (p : PartName) → IsClosed p (bare_front config vb)
 closed_bare config vb (Stripe stripe) = λ there. refl

@@ -11,3 +11,4 @@ pub mod Calls
 pub mod Rests
 pub mod Slotted
 pub mod ClosedLemmas
+pub mod MadeLemmas

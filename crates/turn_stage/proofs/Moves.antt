@@ -14,7 +14,8 @@ use Rattle.ep_model.specs.declared.data.StartData.{StartData}
 use Rattle.ep_model.specs.Legal.{IsLegal}
 use Rattle.hold_stage.specs.Touches.{there}
 use Rattle.turn_stage.specs.declared.data.View.{View}
-use Rattle.turn_stage.specs.Slots.{slot_of, turn_of, has}
+use Rattle.hold_stage.specs.Slots.{slot_of}
+use Rattle.turn_stage.specs.Slots.{turn_of, has}
 use Rattle.turn_stage.specs.Rule.{IsHeld, Fits, Apart, AnySeat, IsHome, IsUnspoken, Turned}
 use Rattle.turn_stage.proofs.Parts.{not_both, is_false, slots_apart}
 use Rattle.turn_stage.proofs.Seats.{each_set, two_set, any_set, any_mine, shares_set}

@@ -18,13 +18,15 @@ use Rattle.hold_stage.specs.Grows.{IsNone, Grown}
 use Rattle.hold_stage.proofs.GrowsLemmas.{grown_nothing}
 use Rattle.turn_stage.specs.declared.data.View.{View}
 use Rattle.std.specs.Prelude.{nat_lt}
+use Rattle.std.proofs.lemmas.Option.{slice_get_within}
 use Rattle.std.proofs.lemmas.Bool.{ltb-false, eq-eqb, cases_eq}
 use Rattle.ep_model.specs.declared.event.PartName.TheVariants.{Stripe, Queue, Desk}
 use Rattle.turn_stage.specs.Filled.{AreFilled}
-use Rattle.turn_stage.specs.Slots.{slot_of, name_of, turn_of, has}
+use Rattle.hold_stage.specs.Slots.{slot_of, name_of, bare_front}
+use Rattle.turn_stage.specs.Slots.{turn_of, has}
 use Rattle.turn_stage.specs.Rule.{IsEnded, Fits, Turned}
-use Rattle.turn_stage.specs.Parts.{bare_front, AreParts, first_view}
-use Rattle.turn_stage.proofs.Parts.{not_both, slot_within}
+use Rattle.turn_stage.specs.Parts.{AreParts, first_view}
+use Rattle.turn_stage.proofs.Parts.{not_both, slot_within, name_of_slot}
 use Rattle.turn_stage.proofs.Seats.{at_one, shares_two}
 use Rattle.turn_stage.proofs.Steps.{all_each}
 
@@ -87,7 +89,7 @@ module _ {P : Type 0} (stands : PartName → FrontData → P → Type 0) where
     slotted = length_homes parts ∙ are.count;
     home = λ p here free.
         let k = in_place parts (slot_of config p) (let w = slot_within config p here in let c = are.count in omega arith) in
-        record { value = k.0; at = k.2; fine = are.stand p k.0 here k.1 };
+        record { value = k.0; at = k.2; fine = subst (λ (r : PartName). stands r (bare_front config id) k.0) (name_of_slot config p here) (are.stand (slot_of config p) k.0 k.1) };
     owned = λ p here taken. absurd (taken (ap (λ (l : List ℕ). slice_index l (slot_of config p + 1)) zeros ∙ all_zero (config.stripes + 3) (slot_of config p + 1)));
     fits = λ i u at live. subst (Fits words (map some (map Some parts)) (bare_front config id) 1) (only_first (first_view config id) u i at).1 mine;
     apart = λ i j x y ix jy lx ly n. absurd (n ((only_first (first_view config id) x i ix).0 ∙ sym (only_first (first_view config id) y j jy).0));
@@ -151,7 +153,9 @@ module _ {P : Type 0} (stands : PartName → FrontData → P → Type 0) where
   pub parted : (v : View) (slots : List (Option P)) (items : List P) → Closing v slots → map Some items ≡ slots → AreParts stands v.front items
   parted v slots items c same = record {
     count = sym (length_some items) ∙ (ap (λ (l : List (Option P)). length l) same ∙ c.count);
-    stand = λ p x here at.
-        let k = c.parts p here in
-        subst (λ (y : P). stands p v.front y) (same_at items (slot_of v.front.config p) x k.0 at (ap (λ (l : List (Option P)). get_elem? l (slot_of v.front.config p)) same ∙ k.1)) k.2;
+    stand = λ slot x at.
+        let within : slot < length items = slice_get_within items slot x at in
+        let n = slot_named v.front.config slot (let e = c.count in let l = length_some items in let m = ap (λ (l : List (Option P)). length l) same in omega arith) in
+        let k = c.parts (name_of v.front.config slot) n.0 in
+        subst (λ (y : P). stands (name_of v.front.config slot) v.front y) (same_at items slot x k.0 at (ap (λ (l : List (Option P)). get_elem? l slot) same ∙ (ap (λ (i : ℕ). get_elem? slots i) (sym n.1) ∙ k.1))) k.2;
   }

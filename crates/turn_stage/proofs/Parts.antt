@@ -6,7 +6,8 @@ use Rattle.ep_model.specs.declared.event.PartName.{PartName}
 use Rattle.ep_model.specs.declared.event.PartName.TheVariants.{Stripe, Queue, Desk}
 use Rattle.hold_stage.specs.Touches.{there, same_part}
 use Rattle.hold_stage.specs.Grows.{but_this}
-use Rattle.turn_stage.specs.Slots.{slot_of, name_of, has, without}
+use Rattle.hold_stage.specs.Slots.{slot_of, name_of}
+use Rattle.turn_stage.specs.Slots.{has, without_part}
 
 pub not_both : (b : Bool) → b ≡ true → b ≡ false → ⊥
 not_both b t f = true≢false (sym t ∙ f)
@@ -61,14 +62,14 @@ if_same : (b : Bool) (xs ys : List PartName) (p : PartName) → has (if b then x
 if_same true xs ys p = refl
 if_same false xs ys p = refl
 
-pub has_without : (part : PartName) (parts : List PartName) (p : PartName) → has (without part parts) p ≡ but_this part (has parts) p
+pub has_without : (part : PartName) (parts : List PartName) (p : PartName) → has (without_part part parts) p ≡ but_this part (has parts) p
 has_without part [] p = but_nothing (same_part p part)
   where
     but_nothing : (b : Bool) → false ≡ not b && false
     but_nothing true = refl
     but_nothing false = refl
 has_without part (first ∷ parts) p =
-    if_same (same_part first part) (without part parts) (first ∷ without part parts) p
+    if_same (same_part first part) (without_part part parts) (first ∷ without_part part parts) p
     ∙ (ap (λ (b : Bool). if same_part first part then b else same_part p first || b) (has_without part parts p) ∙ step (same_part first part) refl)
   where
     gone : (b c : Bool) → not b && c ≡ not b && (b || c)
@@ -85,21 +86,21 @@ has_without part (first ∷ parts) p =
     step true e = gone (same_part p part) (has parts p) ∙ ap (λ (q : PartName). not (same_part p part) && (same_part p q || has parts p)) (sym (part_same first part e))
     step false e = left (same_part p part) (same_part p first) (has parts p) (λ a. is_false (same_part p part) (λ k. not_both (same_part first part) (same_of first part (sym (part_same p first a) ∙ part_same p part k)) e))
 
-pub without_less : (part : PartName) (parts : List PartName) (p : PartName) → has (without part parts) p ≡ true → has parts p ≡ true
+pub without_less : (part : PartName) (parts : List PartName) (p : PartName) → has (without_part part parts) p ≡ true → has parts p ≡ true
 without_less part parts p h = less (same_part p part) (has parts p) (sym (has_without part parts p) ∙ h)
   where
     less : (b c : Bool) → not b && c ≡ true → c ≡ true
     less true c e = absurd (true≢false (sym e))
     less false c e = e
 
-pub without_this : (part : PartName) (parts : List PartName) (p : PartName) → has (without part parts) p ≡ true → p ≡ part → ⊥
+pub without_this : (part : PartName) (parts : List PartName) (p : PartName) → has (without_part part parts) p ≡ true → p ≡ part → ⊥
 without_this part parts p h e = gone (same_part p part) (has parts p) (same_of p part e) (sym (has_without part parts p) ∙ h)
   where
     gone : (b c : Bool) → b ≡ true → not b && c ≡ true → ⊥
     gone true c t e = true≢false (sym e)
     gone false c t e = true≢false (sym t)
 
-pub without_other : (part : PartName) (parts : List PartName) (p : PartName) → has parts p ≡ true → (p ≡ part → ⊥) → has (without part parts) p ≡ true
+pub without_other : (part : PartName) (parts : List PartName) (p : PartName) → has parts p ≡ true → (p ≡ part → ⊥) → has (without_part part parts) p ≡ true
 without_other part parts p h n = has_without part parts p ∙ keep (same_part p part) (has parts p) (is_false (same_part p part) (λ k. n (part_same p part k))) h
   where
     keep : (b c : Bool) → b ≡ false → c ≡ true → not b && c ≡ true

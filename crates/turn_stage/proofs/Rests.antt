@@ -5,7 +5,7 @@ use Rattle.ep_model.specs.declared.config.Config.{Config}
 use Rattle.ep_model.specs.declared.event.PartName.{PartName}
 use Rattle.hold_stage.specs.Touches.{there, same_part}
 use Rattle.turn_stage.specs.declared.data.View.{View}
-use Rattle.turn_stage.specs.Slots.{has, without}
+use Rattle.turn_stage.specs.Slots.{has, without_part}
 use Rattle.turn_stage.specs.Seats.{is_resting, is_empty, is_none, all_there, IsResting}
 use Rattle.turn_stage.proofs.Parts.{has_more}
 
@@ -44,11 +44,11 @@ held_there config (first ∷ parts) part all h =
 pub there_more : (config : Config) (parts : List PartName) (part : PartName) → there config part ≡ true → all_there config parts ≡ true → all_there config (part ∷ parts) ≡ true
 there_more config parts part here all = and_true (there config part) (all_there config parts) here all
 
-pub there_less : (config : Config) (parts : List PartName) (part : PartName) → all_there config parts ≡ true → all_there config (without part parts) ≡ true
+pub there_less : (config : Config) (parts : List PartName) (part : PartName) → all_there config parts ≡ true → all_there config (without_part part parts) ≡ true
 there_less config [] part all = refl
 there_less config (first ∷ parts) part all =
     let k = and_both (there config first) (all_there config parts) all in
-    pick (same_part first part) (without part parts) (there_less config parts part k.1) k.0
+    pick (same_part first part) (without_part part parts) (there_less config parts part k.1) k.0
   where
     pick : (b : Bool) (rest : List PartName) → all_there config rest ≡ true → there config first ≡ true → all_there config (if b then rest else (first ∷ rest)) ≡ true
     pick true rest h here = h

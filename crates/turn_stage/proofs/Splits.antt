@@ -18,7 +18,7 @@ use Rattle.hold_stage.proofs.Later.{all_append}
 use Rattle.turn_stage.specs.declared.data.View.{View}
 use Rattle.turn_stage.specs.Slots.{has}
 use Rattle.turn_stage.specs.Rule.{IsEnded, Fits, Apart, AnySeat, IsUnspoken, Turned}
-use Rattle.turn_stage.specs.Plays.{longer, without_number, with_number, gives, joined, spent_view}
+use Rattle.turn_stage.specs.Plays.{longer, without_number, with_number, gives, joined_view, spent_view}
 use Rattle.turn_stage.proofs.Parts.{not_both}
 use Rattle.turn_stage.proofs.Seats.{at_within, at_one, each_set, two_set, any_set, each_push, two_push, any_push, shares_set, shares_push}
 use Rattle.turn_stage.proofs.Moves.{apart_turned}
@@ -183,7 +183,7 @@ module _ {P : Type 0} (stands : PartName → FrontData → P → Type 0) where
 
   join_rule : (s : State (Option P) View) (t : Turned stands s) (id : ℕ) (v : View) (other : ℕ) (w : View) → get_elem? s.views id ≡ some v → other ≢ id → get_elem? s.views other ≡ some w
       → v.live ≡ true → w.live ≡ true → IsNone (has v.held) → IsNone (has w.held)
-      → Turned stands (record { words = s.words; homes = s.homes; views = set (set s.views id (joined v w)) other spent_view })
+      → Turned stands (record { words = s.words; homes = s.homes; views = set (set s.views id (joined_view v w)) other spent_view })
   join_rule s t id v other w at apart there live alive bare_v bare_w = record {
     history = t.history;
     given = t.given;
@@ -215,7 +215,7 @@ module _ {P : Type 0} (stands : PartName → FrontData → P → Type 0) where
   }
     where
       b : View
-      b = joined v w
+      b = joined_view v w
 
       f : Fits s.words s.homes t.history t.given v
       f = t.fits id v at live
@@ -226,24 +226,24 @@ module _ {P : Type 0} (stands : PartName → FrontData → P → Type 0) where
       two : Apart v w
       two = t.apart id other v w at there live alive (λ e. apart (sym e))
 
-      which : (i : ℕ) (u : View) → get_elem? (set (set s.views id (joined v w)) other spent_view) i ≡ some u → u.live ≡ true → ((i ≡ id) × (joined v w ≡ u)) ⊎ ((i ≢ id) × (i ≢ other) × (get_elem? s.views i ≡ some u))
+      which : (i : ℕ) (u : View) → get_elem? (set (set s.views id (joined_view v w)) other spent_view) i ≡ some u → u.live ≡ true → ((i ≡ id) × (joined_view v w ≡ u)) ⊎ ((i ≢ id) × (i ≢ other) × (get_elem? s.views i ≡ some u))
       which i u found lives = ⊎_elim
           (λ (k : (i ≡ other) × (spent_view ≡ u)). absurd (not_both u.live lives (ap (λ (z : View). z.live) (sym k.1))))
-          (λ (k : (i ≢ other) × (get_elem? (set s.views id (joined v w)) i ≡ some u)). ⊎_elim
-          (λ (m : (i ≡ id) × (joined v w ≡ u)). inl m)
+          (λ (k : (i ≢ other) × (get_elem? (set s.views id (joined_view v w)) i ≡ some u)). ⊎_elim
+          (λ (m : (i ≡ id) × (joined_view v w ≡ u)). inl m)
           (λ (m : (i ≢ id) × (get_elem? s.views i ≡ some u)). inr (m.0, k.0, m.1))
-          (at_set s.views id i (joined v w) u k.1))
-          (at_set (set s.views id (joined v w)) other i spent_view u found)
+          (at_set s.views id i (joined_view v w) u k.1))
+          (at_set (set s.views id (joined_view v w)) other i spent_view u found)
 
-      here : get_elem? (set (set s.views id (joined v w)) other spent_view) id ≡ some (joined v w)
-      here = set_else (set s.views id (joined v w)) other id spent_view (λ e. apart (sym e)) ∙ set_here s.views id (joined v w) (at_within s.views id v at)
+      here : get_elem? (set (set s.views id (joined_view v w)) other spent_view) id ≡ some (joined_view v w)
+      here = set_else (set s.views id (joined_view v w)) other id spent_view (λ e. apart (sym e)) ∙ set_here s.views id (joined_view v w) (at_within s.views id v at)
 
-      any_joined : (R : View → Type 0) → AnySeat R s.views → (R v → R (joined v w)) → (R w → R (joined v w)) → AnySeat R (set (set s.views id (joined v w)) other spent_view)
+      any_joined : (R : View → Type 0) → AnySeat R s.views → (R v → R (joined_view v w)) → (R w → R (joined_view v w)) → AnySeat R (set (set s.views id (joined_view v w)) other spent_view)
       any_joined R any first second = dite (ℕ_discrete any.seat id)
-          (λ e. record { seat = id; view = joined v w; at = here; live = live; has = first (subst R (at_one s.views any.seat id any.view v any.at at e) any.has) })
+          (λ e. record { seat = id; view = joined_view v w; at = here; live = live; has = first (subst R (at_one s.views any.seat id any.view v any.at at e) any.has) })
           (λ n. dite (ℕ_discrete any.seat other)
-          (λ e. record { seat = id; view = joined v w; at = here; live = live; has = second (subst R (at_one s.views any.seat other any.view w any.at there e) any.has) })
-          (λ m. record { seat = any.seat; view = any.view; at = set_else (set s.views id (joined v w)) other any.seat spent_view m ∙ (set_else s.views id any.seat (joined v w) n ∙ any.at); live = any.live; has = any.has }))
+          (λ e. record { seat = id; view = joined_view v w; at = here; live = live; has = second (subst R (at_one s.views any.seat other any.view w any.at there e) any.has) })
+          (λ m. record { seat = any.seat; view = any.view; at = set_else (set s.views id (joined_view v w)) other any.seat spent_view m ∙ (set_else s.views id any.seat (joined_view v w) n ∙ any.at); live = any.live; has = any.has }))
 
       or_left : (x y : Bool) → x ≡ true → (x || y) ≡ true
       or_left true y h = refl
@@ -296,7 +296,7 @@ module _ {P : Type 0} (stands : PartName → FrontData → P → Type 0) where
           (grown_fewer w.front v.front (has w.held) (λ _. false) w.caller w.desk (λ p h. absurd (cc)) (shorter_grown w.front v.front t.history (has w.held) (has v.held) w.caller v.caller w.desk v.desk g.follows f.follows bare_w bare_v k.1)))
           order
 
-      mine : Fits s.words s.homes t.history t.given (joined v w)
+      mine : Fits s.words s.homes t.history t.given (joined_view v w)
       mine = record {
         follows = follows;
         legal = on_front Rattle.ep_model.specs.Legal.IsLegal f.legal g.legal;
@@ -310,7 +310,7 @@ module _ {P : Type 0} (stands : PartName → FrontData → P → Type 0) where
         last = (record { one = one_front; grown = first_grown; other = second_grown }, tt);
       }
 
-      beside : (u : View) → Apart u v → Apart u w → Apart u (joined v w)
+      beside : (u : View) → Apart u v → Apart u w → Apart u (joined_view v w)
       beside u x y = record {
         parts = λ p h. bare_v p;
         callers = x.callers;
@@ -326,6 +326,6 @@ module _ {P : Type 0} (stands : PartName → FrontData → P → Type 0) where
           neither true q k l = k
           neither false q k l = l
 
-  pub joins : (id : ℕ) (v : View) (other : ℕ) (w : View) → v.live ≡ true → w.live ≡ true → IsNone (has v.held) → IsNone (has w.held) → Joins (Turned stands) id v other w (joined v w) spent_view
+  pub joins : (id : ℕ) (v : View) (other : ℕ) (w : View) → v.live ≡ true → w.live ≡ true → IsNone (has v.held) → IsNone (has w.held) → Joins (Turned stands) id v other w (joined_view v w) spent_view
   joins id v other w live alive bare_v bare_w s t at apart found =
-      join_rule s t id v other w at apart (sym (set_else s.views id other (joined v w) apart) ∙ found) live alive bare_v bare_w
+      join_rule s t id v other w at apart (sym (set_else s.views id other (joined_view v w) apart) ∙ found) live alive bare_v bare_w

@@ -17,7 +17,8 @@ use Rattle.ep_model.specs.Legal.{May, IsLegal}
 use Rattle.hold_stage.specs.Touches.{there, same_part, touches}
 use Rattle.hold_stage.specs.Grows.{Grown}
 use Rattle.turn_stage.specs.declared.data.View.{View}
-use Rattle.turn_stage.specs.Slots.{slot_of, name_of, turn_of, has, without}
+use Rattle.hold_stage.specs.Slots.{slot_of, name_of}
+use Rattle.turn_stage.specs.Slots.{turn_of, has, without_part}
 use Rattle.turn_stage.specs.Rule.{IsHeld, Fits, Apart, IsHome, Turned}
 use Rattle.turn_stage.specs.Plays.{part_of, Looked, Won, Tried, PutDown, PickedUp, Gave, Told}
 use Rattle.turn_stage.proofs.Parts.{not_both, is_false, same_itself, same_or, slot_within, name_of_slot, has_more, without_less, without_this, without_other}
@@ -377,11 +378,11 @@ module _ {P : Type 0} (stands : PartName → FrontData → P → Type 0) (keep :
           ends = a.ends;
         })
         (inr refl) refl refl,
-    ap (λ (p : PartName). (record v { hand = None; held = without p v.held }, c)) (sym (named slots 0 0 v part here)),
+    ap (λ (p : PartName). (record v { hand = None; held = without_part p v.held }, c)) (sym (named slots 0 0 v part here)),
   )
     where
       w : View
-      w = record v { hand = None; held = without part v.held }
+      w = record v { hand = None; held = without_part part v.held }
 
       f : Fits s.words s.homes t.history t.given v
       f = t.fits id v at live

@@ -8,11 +8,6 @@ use Rattle.ep_model.specs.declared.data.FrontData.{FrontData}
 use Rattle.ep_model.specs.World.{World}
 use Rattle.ep_model.specs.Front.{world_of, with_event}
 use Rattle.hold_stage.specs.Touches.{touches}
-use Rattle.hold_stage.specs.Grows.{IsNone}
-use Rattle.turn_stage.specs.declared.pass.TurnPass.{TurnPass}
-use Rattle.turn_stage.specs.declared.table.Turns.{Turns}
-use Rattle.turn_stage.specs.Slots.{has}
-use Rattle.turn_stage.specs.Passes.{view_of, pass_data, IsPassOf}
 use Rattle.hold_stage.proofs.Later.{world_step}
 use Rattle.hold_stage.proofs.Views.{step_stripe}
 
@@ -28,9 +23,3 @@ closed_keeps (Stripe stripe) f event apart closed = λ there.
     ap (λ (w : World). w.opened) (world_step f event) ∙ (step_stripe f stripe (world_of f) event there apart).opened ∙ closed there
 closed_keeps Queue f event apart closed = tt
 closed_keeps Desk f event apart closed = tt
-
--- A pass made calls: it is of the same turns, holds no part, and has the caller numbers and the share that it had.
-pub record Ran {P : Type 0} (turns : Turns P) (before after : TurnPass P) : Type 0 where
-  pub of : IsPassOf turns after
-  pub none : IsNone (has (view_of after).held)
-  pub numbers : pass_data (view_of after) ≡ pass_data (view_of before)

@@ -7,3 +7,4 @@ pub mod Seats
 pub mod Passes
 pub mod Filled
 pub mod Closed
+pub mod Made

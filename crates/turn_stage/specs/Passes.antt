@@ -7,6 +7,7 @@ use Rattle.turn_stage.specs.declared.data.View.{View}
 use Rattle.turn_stage.specs.declared.data.PassData.{PassData}
 use Rattle.turn_stage.specs.declared.pass.TurnPass.{TurnPass}
 use Rattle.turn_stage.specs.declared.table.Turns.{Turns}
+use Rattle.turn_stage.specs.Plays.{joined_view}
 
 -- what a pass knows
 abbrev pub view_of : {P : Type 0} → TurnPass P → View
@@ -26,7 +27,7 @@ IsPassOf turns pass = (pass.seat.table_id ≡ turns.table.shared.table_id) × ((
 
 -- Two passes were joined: the front is the longer one, to which both grew.
 pub record Joined (v w both : View) : Type 0 where
-  pub is : both ≡ record (Rattle.turn_stage.specs.Plays.joined v w) { last = both.last }
+  pub is : both ≡ record (joined_view v w) { last = both.last }
   pub one : (both.front ≡ w.front) ⊎ (both.front ≡ v.front)
   pub grown : Grown v.front both.front (λ _. false) v.caller v.desk
   pub other : Grown w.front both.front (λ _. false) w.caller w.desk

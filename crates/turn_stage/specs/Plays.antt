@@ -9,7 +9,8 @@ use Rattle.ep_model.specs.declared.data.StartData.{StartData}
 use Rattle.ep_model.specs.Legal.{IsLegal}
 use Rattle.hold_stage.specs.Grows.{Grown, Keeps, Noted, Begun}
 use Rattle.turn_stage.specs.declared.data.View.{View}
-use Rattle.turn_stage.specs.Slots.{slot_of, name_of, has, without}
+use Rattle.hold_stage.specs.Slots.{slot_of, name_of}
+use Rattle.turn_stage.specs.Slots.{has, without_part}
 use Rattle.turn_stage.specs.Rule.{IsLonger}
 use Rattle.std.specs.List.{AllByRecursion}
 
@@ -62,7 +63,7 @@ module _ {P : Type 0} where
 
   -- the slot was put back and the turn given
   abbrev pub Gave : PartName → Me (Option P) View → Me (Option P) View → Type 0
-  Gave part m n = n ≡ (record m.0 { hand = None; held = without part m.0.held }, rest m.1)
+  Gave part m n = n ≡ (record m.0 { hand = None; held = without_part part m.0.held }, rest m.1)
 
   -- the start was put
   pub record Begins (start : StartData) (m n : Me (Option P) View) : Type 0 where
@@ -96,8 +97,8 @@ with_number v = record { front = v.front; caller = v.next; live = v.live; held =
 abbrev pub gives : View → Bool
 gives v = nat_lt v.next v.end
 
-abbrev pub joined : View → View → View
-joined v w = record v {
+abbrev pub joined_view : View → View → View
+joined_view v w = record v {
   front = longer v.front w.front;
   desk = v.desk || w.desk;
   next = if gives w then w.next else v.next;

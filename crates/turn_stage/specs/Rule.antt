@@ -15,7 +15,8 @@ use Rattle.hold_stage.specs.Touches.{there, is_of}
 use Rattle.hold_stage.specs.Grows.{Grown}
 use Rattle.turn_stage.specs.declared.data.View.{View}
 use Rattle.turn_stage.specs.declared.data.JoinData.{JoinData}
-use Rattle.turn_stage.specs.Slots.{slot_of, turn_of, has}
+use Rattle.hold_stage.specs.Slots.{slot_of}
+use Rattle.turn_stage.specs.Slots.{turn_of, has}
 
 -- a slot is at home, with anything
 abbrev pub IsFilled : {P : Type 0} → List (mathlib.Core.Option.Option (Option P)) → ℕ → Type 0

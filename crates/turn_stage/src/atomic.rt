@@ -5,7 +5,8 @@ ghost use Rattle.ep_model.specs.History.{event_data};
 ghost use Rattle.ep_model.specs.Legal.{May};
 ghost use Rattle.hold_stage.specs.Touches.{there};
 ghost use Rattle.hold_stage.specs.Grows.{Covered, IsOwn};
-ghost use Rattle.turn_stage.specs.Slots.{slot_of, has, without};
+ghost use Rattle.hold_stage.specs.Slots.{slot_of};
+ghost use Rattle.turn_stage.specs.Slots.{has, without_part};
 ghost use Rattle.turn_stage.specs.Plays.{Looked, Notes, Begins};
 ghost use Rattle.turn_stage.specs.Seats.{IsResting, Taken, Missed};
 
@@ -105,7 +106,7 @@ pub fn give<P: Stands + Drop>(
     requires stands { P.stands part (seat.old.me.0).front value }
     ensures board { seat.new.table_id ≡ seat.old.table_id }
     ensures rest { IsResting seat.new.me }
-    ensures given { seat.new.me.0 ≡ record (seat.old.me.0) { held = without part (seat.old.me.0).held } }
+    ensures given { seat.new.me.0 ≡ record (seat.old.me.0) { held = without_part part (seat.old.me.0).held } }
 {
     board.load::<PicksUp>(seat, slot + 1);
     board.exchange(seat, slot, Some(value));

@@ -2,11 +2,13 @@
 use ep_model::{FrontData, PartName};
 use std::collections::LinkedList;
 
-/// What a pass knows. `front` is what it knows of the history, `held` the parts that it holds, `hand` the part that is
-/// just then on the way between it and its slot. From `next` up to `end` are the caller numbers that it can still give.
-/// `share` is its share of all 2^64 numbers, and at the only pass that is left it is all of them. `ended` has the
-/// callers whose passes were joined into this one, each with the last front of its pass. `last` is the join that was
-/// just then made, if any.
+/// What a pass knows. `front` is what it knows of the history, `caller` its number, `held` the parts that it holds, and
+/// `hand` the part that is just then on the way between it and its slot. `live` is false once the pass was joined to
+/// another: what is left of it counts for nothing. `desk` is whether it is the desk's. From `next` up to `end` are the
+/// caller numbers that it can still give. `share` is its share of all 2^64 numbers, and at the only pass that is left it
+/// is all of them. `losses` is how often it found a part with somebody else; it has no bound, since no byte holds it.
+/// `ended` has the callers whose passes were joined into this one, each with the last front of its pass. `last` is the
+/// join that was just then made, if any.
 pub struct View {
     pub front: FrontData,
     pub caller: u64,

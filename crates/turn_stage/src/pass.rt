@@ -6,6 +6,10 @@ use crate::rule::Seat;
 
 /// A pass: what one thread knows of a vBucket's history, which parts it holds, its caller number, and the numbers
 /// that it can give to other passes. Exactly one pass is the desk's.
+///
+/// A pass that is dropped in place of being joined is lost, with all that it had: what it noted stands, a part that it
+/// held is Busy for everybody from then on, the desk or the numbers to give are nobody's, and since its share never
+/// comes back, no pass meets the condition of `Turns::close` any more.
 #[derive(Drop)]
 pub struct TurnPass<P> {
     pub(crate) seat: Seat<P>,

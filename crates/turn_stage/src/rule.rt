@@ -1,7 +1,7 @@
 // The rule of the table, and the names of its steps.
 ghost use Rattle.turn_stage.specs.Rule.{Turned};
 ghost use Rattle.turn_stage.specs.Parts.{first_view};
-ghost use Rattle.turn_stage.specs.Plays.{part_of, Looked, Tried, Notes, PutDown, PickedUp, Gave, Begins, Told, without_number, with_number, joined, spent_view};
+ghost use Rattle.turn_stage.specs.Plays.{part_of, Looked, Tried, Notes, PutDown, PickedUp, Gave, Begins, Told, without_number, with_number, joined_view, spent_view};
 ghost use Rattle.ep_model.specs.declared.data.EventData.{EventData};
 ghost use Rattle.turn_stage.specs.Events.{any_event};
 
@@ -13,7 +13,7 @@ use std::marker::{Brand, PhantomData};
 
 /// Which vBucket a table is of.
 #[derive(Clone, Copy)]
-pub struct Place {
+pub struct TableKey {
     pub config: Config,
     pub vb: u16,
 }
@@ -22,11 +22,11 @@ pub struct Place {
 pub struct Rule;
 
 /// The words and slots of a vBucket, as threads share them.
-pub type Board<P> = Shared<Option<P>, View, Place, Rule>;
+pub type Board<P> = Shared<Option<P>, View, TableKey, Rule>;
 
 pub type Seat<P> = atomic_table::Seat<Option<P>, View>;
 
-impl<P: Stands> TableRule<Option<P>, View, Place> for Rule {
+impl<P: Stands> TableRule<Option<P>, View, TableKey> for Rule {
     ghost holds = { λ _. Turned P.stands };
 
     ghost first = { λ place. first_view place.config place.vb };
@@ -114,7 +114,7 @@ impl Split<View> for Numbers {
 pub struct Fronts;
 
 impl Join<View> for Fronts {
-    ghost both = { joined };
+    ghost both = { joined_view };
 
     ghost spent = { spent_view };
 }

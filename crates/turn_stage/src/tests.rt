@@ -1,17 +1,21 @@
-ghost use Rattle.std.specs.Prelude.{◌≡◌, ◌<◌, ℕ, true, false, length, IfOk};
+ghost use Rattle.std.specs.Prelude.{◌≡◌, ◌+◌, ◌<◌, ◌^◌, ℕ, true, false, [], ◌∷◌, length, Some, None, IfOk};
 ghost use Rattle.ep_model.specs.declared.event.PartName.{PartName};
+ghost use Rattle.ep_model.specs.Legal.{IsLegal};
 ghost use Rattle.hold_stage.specs.Touches.{there};
 ghost use Rattle.hold_stage.specs.Stays.{Stays};
 ghost use Rattle.hold_stage.specs.Grows.{IsNone};
-ghost use Rattle.turn_stage.specs.Closed.{IsClosed, closed_keeps, Ran};
-ghost use Rattle.turn_stage.specs.Parts.{first_view};
+ghost use Rattle.hold_stage.specs.Went.{Went};
+ghost use Rattle.turn_stage.specs.Closed.{IsClosed, closed_keeps};
+ghost use Rattle.turn_stage.specs.Made.{refusal, noted_by, only_if, key_at, made, Ran, AreMade, HasJoined};
+ghost use Rattle.turn_stage.specs.Parts.{AreParts, first_view};
 ghost use Rattle.turn_stage.specs.Slots.{has};
 ghost use Rattle.turn_stage.specs.Passes.{view_of, IsPassOf};
 
 use crate::{TurnPass, Turns};
 use ep_model::{Busy, Call, Cause, Config, Event, Eviction, NoMemory, PartName, stripe_of};
-use hold_stage::{Stage, Stands};
+use hold_stage::{Beginning, Stage, Stands};
 use std::alloc::Global;
+use std::marker::Brand;
 use std::test::Fail;
 use std::thread;
 use std::thread::Threads;
@@ -46,8 +50,26 @@ impl Stands for Tally {
     ghost keeps = { λ part front event _ _ _. closed_keeps part front event };
 }
 
+// A part that stands for every history.
+#[derive(Drop)]
+struct Plain {
+    number: u64,
+}
+
+impl Stands for Plain {
+    ghost stands = { λ _ _ _. Unit {0} };
+
+    ghost keeps = { λ _ _ _ _ _ _ _ _. tt };
+}
+
 // A Get of a key at any stage: its stripe is taken and counts up, the refusal is noted, and the stripe is given back.
-fn refuse<S: Stage<Part = Tally>>(stage: &mut S, key: &[u8], stripes: u16) -> Result<(), Busy>
+// Where the stripe is busy nothing is noted.
+fn refuse<S: Stage<Part = Tally>>(
+    stage: &mut S,
+    key: &[u8],
+    now: u64,
+    stripes: u16,
+) -> Result<(), Busy>
     requires some { 0 < stripes }
     requires stripes { (S.front stage.old).config.stripes ≡ stripes }
     requires none { IsNone (S.holds stage.old) }
@@ -55,6 +77,7 @@ fn refuse<S: Stage<Part = Tally>>(stage: &mut S, key: &[u8], stripes: u16) -> Re
     ensures stays { Stays S.lent S.fixed S.number S.is_desk S.is_telling stage.old stage.new }
     ensures none { IsNone (S.holds stage.new) }
     ensures config { (S.front stage.new).config ≡ (S.front stage.old).config }
+    ensures went { Went (S.front stage.old) (S.front stage.new) (S.holds stage.old) (S.number stage.old) (S.is_desk stage.old) (noted_by (refusal (S.number stage.old) key.now now) result) }
 {
     let caller = stage.caller();
     let part = PartName::Stripe(stripe_of(key, stripes));
@@ -66,7 +89,7 @@ fn refuse<S: Stage<Part = Tally>>(stage: &mut S, key: &[u8], stripes: u16) -> Re
     stage.note(&Event::Refused {
         caller,
         call: Call::Get { key },
-        now: 0,
+        now,
         cause: Cause::Warming,
     });
     stage.give(part, tally);
@@ -74,34 +97,36 @@ fn refuse<S: Stage<Part = Tally>>(stage: &mut S, key: &[u8], stripes: u16) -> Re
 }
 
 // A Get of a key at a pass's stage. Whether its stripe was free.
-fn refuse_at(turns: &Turns<Tally>, pass: &mut TurnPass<Tally>, key: &[u8]) -> bool
+fn refuse_at(turns: &Turns<Tally>, pass: &mut TurnPass<Tally>, key: &[u8], now: u64) -> bool
     requires of { IsPassOf turns.now pass.old }
     requires stripes { turns.now.config.stripes ≡ 4 }
     requires none { IsNone (has (view_of pass.old).held) }
-    ensures ran { Ran turns.now pass.old pass.new }
+    ensures ran { Ran turns.now pass.old pass.new (only_if result (refusal (view_of pass.old).caller key.now now)) }
 {
     let mut stage = turns.stage(pass);
-    refuse(&mut stage, key, 4).is_ok()
+    refuse(&mut stage, key, now, 4).is_ok()
 }
 
-// What a thread does with its pass: `CALLS` Gets of four keys in turn. Where a stripe is busy it tries again.
-fn run(turns: &Turns<Tally>, mut pass: TurnPass<Tally>, first: u32) -> TurnPass<Tally>
+// What a thread does with its pass: `CALLS` Gets of four keys in turn. Where a stripe is busy it tries again. How many
+// it made.
+fn run(turns: &Turns<Tally>, mut pass: TurnPass<Tally>, first: u32) -> (TurnPass<Tally>, u32)
     requires of { IsPassOf turns.now pass }
     requires stripes { turns.now.config.stripes ≡ 4 }
     requires none { IsNone (has (view_of pass).held) }
-    ensures ran { Ran turns.now pass result }
+    requires first { first < 4 }
+    ensures ran { Ran turns.now pass result.0 (made (view_of pass).caller first result.1) }
 {
     let mut calls = 0u32;
     for _ in 0..TRIES {
         if calls == CALLS {
             break;
         }
-        let key = [(first.wrapping_add(calls) % 4) as u8];
-        if refuse_at(turns, &mut pass, &key) {
-            calls = calls.wrapping_add(1);
+        let key = [((first + calls) % 4) as u8];
+        if refuse_at(turns, &mut pass, &key, u64::from(calls)) {
+            calls += 1;
         }
     }
-    pass
+    (pass, calls)
 }
 
 // The same Get where one thread has the world. Whether its stripe was free and one event is told.
@@ -109,7 +134,7 @@ fn refuse_alone(alloc: Global, key: [u8; 1]) -> Result<bool, NoMemory> {
     let mut world = World::new(alloc, &ONE)?;
     world.add(tallies(alloc)?)?;
     world.reserve(1, 1)?;
-    let free = refuse(&mut world.stage(0, 7), &key, 1).is_ok();
+    let free = refuse(&mut world.stage(0, 7), &key, 0, 1).is_ok();
     Ok(free && world.into_history().count() == 1)
 }
 
@@ -120,26 +145,30 @@ fn run_two<R: Threads + Sync>(
     one: TurnPass<Tally>,
     other: TurnPass<Tally>,
     first: u32,
-) -> (TurnPass<Tally>, TurnPass<Tally>)
+) -> ((TurnPass<Tally>, u32), (TurnPass<Tally>, u32))
     requires of { IsPassOf turns.now one × IsPassOf turns.now other }
     requires stripes { turns.now.config.stripes ≡ 4 }
     requires none { IsNone (has (view_of one).held) × IsNone (has (view_of other).held) }
-    ensures ran { Ran turns.now one result.0 × Ran turns.now other result.1 }
+    requires first { first < 3 }
+    ensures one { Ran turns.now one result.0.0 (made (view_of one).caller first result.0.1) }
+    ensures other { Ran turns.now other result.1.0 (made (view_of other).caller (first + 1) result.1.1) }
 {
     thread::join(
         rt,
-        move || -> TurnPass<Tally>
+        move || -> (TurnPass<Tally>, u32)
             requires of { IsPassOf turns.now one }
             requires stripes { turns.now.config.stripes ≡ 4 }
             requires none { IsNone (has (view_of one).held) }
-            ensures { Ran turns.entry.now one result }
+            requires first { first < 4 }
+            ensures { Ran turns.entry.now one result.0 (made (view_of one).caller first result.1) }
         { run(turns, one, first) },
-        move || -> TurnPass<Tally>
+        move || -> (TurnPass<Tally>, u32)
             requires of { IsPassOf turns.now other }
             requires stripes { turns.now.config.stripes ≡ 4 }
             requires none { IsNone (has (view_of other).held) }
-            ensures { Ran turns.entry.now other result }
-        { run(turns, other, first.wrapping_add(1)) },
+            requires first { first < 3 }
+            ensures { Ran turns.entry.now other result.0 (made (view_of other).caller (first + 1) result.1) }
+        { run(turns, other, first + 1) },
     )
 }
 
@@ -154,15 +183,23 @@ fn tallies(alloc: Global) -> Result<Vec<Tally>, NoMemory>
     Ok(parts)
 }
 
+// The turns of a vBucket with one stripe, and their first pass.
+fn one_stripe(alloc: Global) -> Result<(Turns<Tally>, TurnPass<Tally>), NoMemory>
+    ensures of { IfOk result (λ r. IsPassOf r.0 r.1) }
+    ensures first { IfOk result (λ r. view_of r.1 ≡ first_view ONE 0) }
+{
+    let parts = tallies(alloc)?;
+    Turns::new(alloc, &ONE, 0, parts)
+}
+
 #[test]
-fn a_part_that_is_out_is_busy_for_another(rt: HostRuntime) -> Result<(), Fail> {
-    let parts = tallies(rt.alloc())?;
-    let (turns, mut first) = Turns::new(rt.alloc(), &ONE, 0, parts)?;
+fn a_part_that_is_out_is_busy_until_it_is_given_back(rt: HostRuntime) -> Result<(), Fail> {
+    let (turns, mut first) = one_stripe(rt.alloc())?;
     let mut second = turns.split(&mut first);
     let mut third = turns.split(&mut first);
     assert!(rt; first.left() == u64::MAX - 2 && second.left() == 0);
     let mut stage = turns.stage(&mut first);
-    let Ok(queue) = stage.take(PartName::Queue) else {
+    let Ok(mut queue) = stage.take(PartName::Queue) else {
         panic!(rt; "nobody has the queue")
     };
     let mut other = turns.stage(&mut second);
@@ -179,11 +216,95 @@ fn a_part_that_is_out_is_busy_for_another(rt: HostRuntime) -> Result<(), Fail> {
     };
     assert!(rt; queue.count == 6 && desk.count == 7);
     free.give(PartName::Desk, desk);
+    queue.count = 8;
     stage.give(PartName::Queue, queue);
+    let Ok(queue) = free.take(PartName::Queue) else {
+        panic!(rt; "the queue was given back")
+    };
+    assert!(rt; free.caller() == 2 && queue.count == 8);
+    free.give(PartName::Queue, queue);
     turns.join(&mut first, second);
     turns.join(&mut first, third);
     let parts = turns.close(first);
-    assert!(rt; parts.len() == 3 && parts[0].count == 5 && parts[1].count == 6);
+    let mut counts = parts.iter().map(|part| part.count);
+    assert!(rt; counts.eq([5, 8, 7]));
+    Ok(())
+}
+
+#[test]
+fn a_joined_pass_goes_on_and_gives_numbers(rt: HostRuntime) -> Result<(), Fail> {
+    let (turns, mut first) = one_stripe(rt.alloc())?;
+    let mut second = turns.split(&mut first);
+    assert!(rt; refuse(&mut turns.stage(&mut second), &[3], 1, 1).is_ok());
+    turns.join(&mut second, first);
+    assert!(rt; second.left() == u64::MAX - 1);
+    assert!(rt; refuse(&mut turns.stage(&mut second), &[4], 2, 1).is_ok());
+    let mut third = turns.split(&mut second);
+    let mut stage = turns.stage(&mut third);
+    assert!(rt; stage.caller() == 2);
+    assert!(rt; refuse(&mut stage, &[5], 3, 1).is_ok());
+    turns.join(&mut third, second);
+    let parts = turns.close(third);
+    let mut counts = parts.iter().map(|part| part.count);
+    assert!(rt; counts.eq([8, 6, 7]));
+    Ok(())
+}
+
+// Parts of a vBucket with one stripe, which stand for every history.
+fn plains(alloc: Global) -> Result<Vec<Plain>, NoMemory>
+    ensures { IfOk result (λ parts. length parts.items ≡ 3) }
+{
+    let mut parts = Vec::with_capacity(alloc, 3)?;
+    parts.push(Plain { number: 0 })?;
+    parts.push(Plain { number: 1 })?;
+    parts.push(Plain { number: 2 })?;
+    Ok(parts)
+}
+
+// Takes all parts of a vBucket with one stripe, puts a start and gives them back. Whether all were free.
+fn begin_all<B: Beginning>(turns: &Turns<Plain>, pass: &mut TurnPass<Plain>) -> bool
+    requires of { IsPassOf turns.now pass.old }
+    requires one { turns.now.config.stripes ≡ 1 }
+    requires none { IsNone (has (view_of pass.old).held) }
+    requires desk { (view_of pass.old).desk ≡ true }
+    requires bare { (view_of pass.old).front.start ≡ None }
+    ensures of { IsPassOf turns.now pass.new }
+    ensures share { (view_of pass.new).share ≡ (view_of pass.old).share }
+    ensures none { result ≡ true → IsNone (has (view_of pass.new).held) }
+    ensures start { result ≡ true → (view_of pass.new).front.start ≡ Some B.start }
+{
+    let mut stage = turns.stage(pass);
+    let Ok(stripe) = stage.take(PartName::Stripe(0)) else {
+        return false;
+    };
+    let Ok(queue) = stage.take(PartName::Queue) else {
+        return false;
+    };
+    let Ok(desk) = stage.take(PartName::Desk) else {
+        return false;
+    };
+    stage.begin::<B>();
+    stage.give(PartName::Stripe(0), stripe);
+    stage.give(PartName::Queue, queue);
+    stage.give(PartName::Desk, desk);
+    true
+}
+
+#[test]
+fn a_start_is_put_while_all_parts_are_held(rt: HostRuntime) -> Result<(), Fail> {
+    let (turns, mut first) = Turns::new(rt.alloc(), &ONE, 0, plains(rt.alloc())?)?;
+    let mut second = turns.split(&mut first);
+    assert!(rt; begin_all::<Brand>(&turns, &mut first));
+    let mut stage = turns.stage(&mut second);
+    let Ok(desk) = stage.take(PartName::Desk) else {
+        panic!(rt; "the desk was given back")
+    };
+    assert!(rt; desk.number == 2);
+    stage.give(PartName::Desk, desk);
+    turns.join(&mut first, second);
+    let parts = turns.close(first);
+    let mut numbers = parts.iter().map(|part| part.number);
+    assert!(rt; numbers.eq([0, 1, 2]));
     Ok(())
 }
 
@@ -202,44 +323,65 @@ fn four_stripes(alloc: Global) -> Result<(Turns<Tally>, TurnPass<Tally>), NoMemo
     Turns::new(alloc, &FOUR, 0, parts)
 }
 
-// Four threads, each with a pass of its own. The parts once they are joined.
+// Four threads, each with a pass of its own, which are joined. How many calls each made.
 fn run_four<R: Threads + Sync>(
     rt: &R,
-    turns: Turns<Tally>,
+    turns: &Turns<Tally>,
     mut first: TurnPass<Tally>,
-) -> Vec<Tally>
-    requires of { IsPassOf turns first }
+) -> (TurnPass<Tally>, u32, [u32; 3])
+    requires of { IsPassOf turns.now first }
     requires first { view_of first ≡ first_view FOUR 0 }
+    ensures of { IsPassOf turns.now result.0 }
+    ensures alone { (view_of result.0).share ≡ 2 ^ 64 }
+    ensures none { IsNone (has (view_of result.0).held) }
+    ensures joined { HasJoined (view_of result.0) result.1 result.2 }
 {
     let second = turns.split(&mut first);
     let third = turns.split(&mut first);
     let fourth = turns.split(&mut first);
-    let shared = &turns;
-    let ((mut first, second), (third, fourth)) = thread::join(
+    let (((mut first, n), (second, m)), ((third, k), (fourth, l))) = thread::join(
         rt,
-        move || -> (TurnPass<Tally>, TurnPass<Tally>)
-            requires of { IsPassOf shared.now first × IsPassOf shared.now second }
-            requires stripes { shared.now.config.stripes ≡ 4 }
+        move || -> ((TurnPass<Tally>, u32), (TurnPass<Tally>, u32))
+            requires of { IsPassOf turns.now first × IsPassOf turns.now second }
+            requires stripes { turns.now.config.stripes ≡ 4 }
             requires none { IsNone (has (view_of first).held) × IsNone (has (view_of second).held) }
-            ensures { Ran shared.entry.now first result.0 × Ran shared.entry.now second result.1 }
-        { run_two(rt, shared, first, second, 0) },
-        move || -> (TurnPass<Tally>, TurnPass<Tally>)
-            requires of { IsPassOf shared.now third × IsPassOf shared.now fourth }
-            requires stripes { shared.now.config.stripes ≡ 4 }
+            ensures one { Ran turns.entry.now first result.0.0 (made (view_of first).caller 0 result.0.1) }
+            ensures other { Ran turns.entry.now second result.1.0 (made (view_of second).caller 1 result.1.1) }
+        { run_two(rt, turns, first, second, 0) },
+        move || -> ((TurnPass<Tally>, u32), (TurnPass<Tally>, u32))
+            requires of { IsPassOf turns.now third × IsPassOf turns.now fourth }
+            requires stripes { turns.now.config.stripes ≡ 4 }
             requires none { IsNone (has (view_of third).held) × IsNone (has (view_of fourth).held) }
-            ensures { Ran shared.entry.now third result.0 × Ran shared.entry.now fourth result.1 }
-        { run_two(rt, shared, third, fourth, 2) },
+            ensures one { Ran turns.entry.now third result.0.0 (made (view_of third).caller 2 result.0.1) }
+            ensures other { Ran turns.entry.now fourth result.1.0 (made (view_of fourth).caller 3 result.1.1) }
+        { run_two(rt, turns, third, fourth, 2) },
     );
     turns.join(&mut first, second);
     turns.join(&mut first, third);
     turns.join(&mut first, fourth);
-    turns.close(first)
+    (first, n, [m, k, l])
+}
+
+// The turns closed, once all calls are made: the front has of each caller its calls in order, each once, and no other
+// event of it.
+fn close_made(turns: Turns<Tally>, pass: TurnPass<Tally>, first: u32, others: &[u32]) -> Vec<Tally>
+    requires of { IsPassOf turns pass }
+    requires alone { (view_of pass).share ≡ 2 ^ 64 }
+    requires none { IsNone (has (view_of pass).held) }
+    requires joined { HasJoined (view_of pass) first others.now }
+    ensures parts { AreParts (λ part front _. IsClosed part front) (view_of pass).front result.items }
+    ensures legal { IsLegal (view_of pass).front }
+    ensures made { AreMade (view_of pass).front 0 (first ∷ others.now) }
+{
+    turns.close(pass)
 }
 
 #[test]
-fn four_threads_make_each_call_once(rt: HostRuntime) -> Result<(), Fail> {
-    let (turns, first) = four_stripes(rt.alloc())?;
-    let parts = run_four(&rt, turns, first);
+fn four_threads_make_each_call_once_in_order(rt: HostRuntime) -> Result<(), Fail> {
+    let (turns, pass) = four_stripes(rt.alloc())?;
+    let (pass, first, others) = run_four(&rt, &turns, pass);
+    assert!(rt; first == CALLS && others == [CALLS; 3]);
+    let parts = close_made(turns, pass, first, &others);
     let mut counts = parts.iter().map(|part| part.count);
     assert!(rt; counts.eq([100_000, 100_000, 100_000, 100_000, 0, 0]));
     Ok(())

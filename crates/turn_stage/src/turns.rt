@@ -5,15 +5,16 @@ ghost use Rattle.ep_model.specs.History.{event_data};
 ghost use Rattle.ep_model.specs.Legal.{May, IsLegal};
 ghost use Rattle.hold_stage.specs.Touches.{there};
 ghost use Rattle.hold_stage.specs.Grows.{IsNone, Covered, IsOwn};
-ghost use Rattle.turn_stage.specs.Slots.{slot_of, has, without};
-ghost use Rattle.turn_stage.specs.Plays.{Looked, Notes, Begins, without_number, with_number, joined};
-ghost use Rattle.turn_stage.specs.Parts.{bare_front, AreParts, first_view};
+ghost use Rattle.hold_stage.specs.Slots.{slot_of, bare_front};
+ghost use Rattle.turn_stage.specs.Slots.{has, without_part};
+ghost use Rattle.turn_stage.specs.Plays.{Looked, Notes, Begins, without_number, with_number, joined_view};
+ghost use Rattle.turn_stage.specs.Parts.{AreParts, first_view};
 ghost use Rattle.turn_stage.specs.Seats.{Taken, Missed};
 ghost use Rattle.turn_stage.specs.Passes.{view_of, numbers_left, IsPassOf, Joined, AreJoined};
 
 use crate::atomic;
 use crate::pass::TurnPass;
-use crate::rule::{Fronts, Noting, Numbers, Place, Tells};
+use crate::rule::{Fronts, Noting, Numbers, TableKey, Tells};
 use crate::slots::{in_slots, taken_out};
 use crate::stage::TurnStage;
 use crate::table::Turns;
@@ -114,7 +115,7 @@ impl<P: Stands + Drop> Turns<P> {
         requires held { has (view_of pass.old).held part ≡ true }
         requires stands { P.stands part (view_of pass.old).front value }
         ensures of { IsPassOf self.now pass.new }
-        ensures given { view_of pass.new ≡ record (view_of pass.old) { held = without part (view_of pass.old).held } }
+        ensures given { view_of pass.new ≡ record (view_of pass.old) { held = without_part part (view_of pass.old).held } }
     {
         let slot = slot_of(&self.config, part);
         atomic::give(&self.table.shared, &mut pass.seat, part, slot, value);
@@ -190,7 +191,7 @@ impl<P: Stands + Drop> Turns<P> {
         let room = Vec::with_capacity(alloc, count)?;
         let words = Vec::from_elem(alloc, 0u64, usize::from(config.stripes) + 3)?;
         let slots = in_slots(alloc, parts)?;
-        let place = Place {
+        let place = TableKey {
             config: *config,
             vb,
         };
