@@ -81,8 +81,8 @@ write-refused x q fit prior key value flags expiration cas now r status opened r
     ∙ ap (λ (o : Option ℕ). written x q prior (unless o (stored x q fit key value flags expiration now))) (sym r-is ∙ is)
 
 -- stored, with these numbers
-pub write-stored : (x : StripeData) (q : QueueData) (fit : ℕ) (prior : Option Ticket) (key value : List ℕ) (flags expiration cas now : ℕ) (r : Option ℕ) (meta : Meta) (maxcas high : ℕ) → x.opened ≡ true → r ≡ write_refusal x q fit key (length value) cas now → r ≡ None → maxcas ≡ q.maxcas → high ≡ q.high → meta.flags ≡ flags → meta.expiry ≡ stored_expiry expiration now → meta.cas ≡ stamp (record (empty_world 0 0) { maxcas = maxcas }) now → meta.seqno ≡ high + 1 → meta.deleted ≡ false → write_step x q fit prior key value flags expiration cas now ≡ record { step = Done (record { status = success; cas = meta.cas; flags = 0; uuid = 0; seqno = meta.seqno }); stripe = stripe_after (record x { places = released x.places prior }) (Puts key (doc_from meta value)); queue = queue_after q (Puts key (doc_from meta value)) }
-write-stored x q fit prior key value flags expiration cas now r meta maxcas high opened r-is is maxcas-is high-is flags-is expiry-is cas-is seqno-is deleted-is =
+pub write-stored : (x : StripeData) (q : QueueData) (fit : ℕ) (prior : Option Ticket) (key value : List ℕ) (flags expiration cas now : ℕ) (r : Option ℕ) (meta : Meta) (maxcas high uuid : ℕ) → x.opened ≡ true → r ≡ write_refusal x q fit key (length value) cas now → r ≡ None → maxcas ≡ q.maxcas → high ≡ q.high → uuid ≡ q.uuid → meta.flags ≡ flags → meta.expiry ≡ stored_expiry expiration now → meta.cas ≡ stamp (record (empty_world 0 0) { maxcas = maxcas }) now → meta.seqno ≡ high + 1 → meta.deleted ≡ false → write_step x q fit prior key value flags expiration cas now ≡ record { step = Done (record { status = success; cas = meta.cas; flags = 0; uuid = uuid; seqno = meta.seqno }); stripe = stripe_after (record x { places = released x.places prior }) (Puts key (doc_from meta value)); queue = queue_after q (Puts key (doc_from meta value)) }
+write-stored x q fit prior key value flags expiration cas now r meta maxcas high uuid opened r-is is maxcas-is high-is uuid-is flags-is expiry-is cas-is seqno-is deleted-is =
     let w : World = shown_world x q 0 fit key in
     let doc : doc_from meta value ≡ next_doc w value flags (stored_expiry expiration now) false now =
     ap (λ (n : ℕ). record (doc_from meta value) { flags = n }) flags-is
@@ -94,6 +94,7 @@ write-stored x q fit prior key value flags expiration cas now r meta maxcas high
     step-is x q fit prior key value flags expiration cas now opened
     ∙ ap (λ (o : Option ℕ). written x q prior (unless o (stored x q fit key value flags expiration now))) (sym r-is ∙ is)
     ∙ ap (λ (d : Doc). written x q prior (put_success w key d 0 [])) (sym doc)
+    ∙ ap (λ (n : ℕ). written x q prior (record (put_success w key (doc_from meta value) 0 []) { reply = record (put_success w key (doc_from meta value) 0 []).reply { uuid = n } })) (sym uuid-is)
 
 pub err_here : {T E P : Type 0} (r : Result T E) → P → OnErr r P
 err_here (Ok value) p = tt

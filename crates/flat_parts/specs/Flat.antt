@@ -11,8 +11,8 @@ use Rattle.flat_parts.specs.declared.data.PlaceData.{PlaceData}
 use Rattle.flat_parts.specs.declared.data.StripeData.{StripeData}
 use Rattle.flat_parts.specs.declared.data.QueueData.{QueueData}
 use Rattle.flat_parts.specs.declared.node.Node.{Node}
-use Rattle.flat_parts.specs.declared.node.Found.{Found}
-use Rattle.flat_parts.specs.declared.node.Found.TheVariants.{Nothing, Ejected, Resident}
+use Rattle.flat_parts.specs.declared.node.Residency.{Residency}
+use Rattle.flat_parts.specs.declared.node.Residency.TheVariants.{Nothing, Ejected, Resident}
 use Rattle.flat_parts.specs.declared.place.Place.{Place}
 use Rattle.flat_parts.specs.declared.queue.Item.{Item}
 
@@ -45,14 +45,15 @@ stripe_data index nodes mark state opened places next = record {
   next = next;
 }
 
-abbrev pub queue_data : List Item → ℕ → ℕ → ℕ → VbState → Bool → QueueData
-queue_data items high maxcas persisted state opened = record {
+abbrev pub queue_data : List Item → ℕ → ℕ → ℕ → VbState → Bool → ℕ → QueueData
+queue_data items high maxcas persisted state opened uuid = record {
   items = items_data items;
   high = high;
   maxcas = maxcas;
   persisted = persisted;
   state = state;
   opened = opened;
+  uuid = uuid;
 }
 
 -- a stripe has few places, and its numbers don't run out
@@ -65,10 +66,10 @@ abbrev pub place_of : List Node → List ℕ → Option ℕ
 place_of nodes key = position_from (λ (node : Node). bytes_eq node.key.items key) 0 nodes
 
 -- what memory has under a key, as its metadata
-abbrev pub found_value : NodeData → Option (List ℕ) → Found
+abbrev pub found_value : NodeData → Option (List ℕ) → Residency
 found_value node None = Ejected node.meta
 found_value node (Some value) = Resident node.meta
 
-abbrev pub found_of : Option NodeData → Found
+abbrev pub found_of : Option NodeData → Residency
 found_of None = Nothing
 found_of (Some node) = found_value node node.value

@@ -82,7 +82,7 @@ abbrev pub shown_docs : List ℕ → Option NodeData → Docs
 shown_docs key None = finmap.empty
 shown_docs key (Some node) = finmap.insert finmap.empty key (doc_from node.meta (shown_value node.value))
 
--- the world as the stripe of a key and the queue show it to a call on the key
+-- the world as the stripe of a key and the queue show it to a call on the key, with the newest uuid alone of its failovers
 abbrev pub shown_world : StripeData → QueueData → ℕ → ℕ → List ℕ → World
 shown_world x q id fit key = record (empty_world id fit) {
   docs = shown_docs key (node_at x.nodes key);
@@ -91,6 +91,7 @@ shown_world x q id fit key = record (empty_world id fit) {
   state = x.state;
   persisted = q.persisted;
   opened = x.opened;
+  failovers = (q.uuid, 0) ∷ [];
 }
 
 -- the parts after an effect

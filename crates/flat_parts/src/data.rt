@@ -54,7 +54,8 @@ pub struct StripeData {
     pub next: u64,
 }
 
-/// A queue: the mutations that aren't persisted, in order, and the vBucket's numbers.
+/// A queue: the mutations that aren't persisted, in order, and the vBucket's numbers. `uuid` is the newest of its
+/// failover table, or 0.
 pub struct QueueData {
     pub items: LinkedList<(LinkedList<u8>, DocData)>,
     pub high: u64,
@@ -62,6 +63,7 @@ pub struct QueueData {
     pub persisted: u64,
     pub state: VbState,
     pub opened: bool,
+    pub uuid: u64,
 }
 
 /// What a Get leaves: what it came to, the value of its answer, and the stripe.

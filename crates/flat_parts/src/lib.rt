@@ -14,7 +14,7 @@ pub mod write;
 pub use data::{
     NodeData, Outcome, PageData, PlaceData, QueueData, ReadData, Step, StripeData, WriteData,
 };
-pub use node::{Found, Node};
+pub use node::{Node, Residency};
 pub use place::Place;
 pub use queue::{Document, FlatQueue, Item};
 pub use stripe::FlatStripe;

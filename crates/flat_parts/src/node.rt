@@ -18,7 +18,7 @@ pub struct Node {
 
 /// What memory has under a key.
 #[derive(Clone, Copy, Debug, PartialEq, Eq)]
-pub enum Found {
+pub enum Residency {
     Nothing,
     /// The document's value is away.
     Ejected(Meta),
@@ -43,12 +43,12 @@ impl Node {
     }
 
     /// What memory has of the document.
-    pub fn found(&self) -> Found
+    pub fn found(&self) -> Residency
         ensures { result ≡ found_value (node_data self.now) (node_data self.now).value }
     {
         match self.value {
-            None => Found::Ejected(self.meta),
-            Some(_) => Found::Resident(self.meta),
+            None => Residency::Ejected(self.meta),
+            Some(_) => Residency::Resident(self.meta),
         }
     }
 

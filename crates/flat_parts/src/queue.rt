@@ -24,7 +24,7 @@ pub struct Item {
 }
 
 /// The mutations of a vBucket that aren't persisted, in order, and its numbers: the greatest sequence number and CAS,
-/// and the sequence number up to which the store holds all. A mutation joins it by `write`.
+/// the sequence number up to which the store holds all, and the newest uuid. A mutation joins it by `write`.
 #[derive(Drop)]
 pub struct FlatQueue {
     pub(crate) items: Vec<Item>,
@@ -33,6 +33,7 @@ pub struct FlatQueue {
     persisted: u64,
     state: VbState,
     opened: bool,
+    uuid: u64,
 }
 
 impl Model for FlatQueue {
@@ -42,7 +43,7 @@ impl Model for FlatQueue {
 
     ghost Value = { QueueData };
 
-    ghost view = { λ q. queue_data q.items.items q.high q.maxcas q.persisted q.state q.opened };
+    ghost view = { λ q. queue_data q.items.items q.high q.maxcas q.persisted q.state q.opened q.uuid };
 
     ghost invariant = { λ q. IsSound q.high q.maxcas };
 }
@@ -74,7 +75,7 @@ impl FlatQueue {
     ghost use Rattle.ep_model.specs.Plain.{IsSound};
     ghost use Rattle.flat_parts.specs.Flat.{item_data};
 
-    /// The queue of an active vBucket that hasn't opened and has no document yet. It takes no memory.
+    /// The queue of an active vBucket that hasn't opened, and has no document and no failovers yet. It takes no memory.
     pub fn new(alloc: Global) -> FlatQueue
         ensures { result ≡ record {
           items = [];
@@ -83,6 +84,7 @@ impl FlatQueue {
           persisted = 0;
           state = VbState.Active;
           opened = false;
+          uuid = 0;
         } }
     {
         FlatQueue {
@@ -92,6 +94,7 @@ impl FlatQueue {
             persisted: 0,
             state: VbState::Active,
             opened: false,
+            uuid: 0,
         }
     }
 
@@ -123,6 +126,13 @@ impl FlatQueue {
         ensures { result ≡ self.now.persisted }
     {
         self.persisted
+    }
+
+    /// The newest uuid of the vBucket's failover table, 0 where that is empty.
+    pub fn uuid(&self) -> u64
+        ensures { result ≡ self.now.uuid }
+    {
+        self.uuid
     }
 
     /// How many mutations aren't persisted.

@@ -11,7 +11,7 @@ ghost use Rattle.flat_parts.specs.Looks.{Look, look, look_shows};
 ghost use Rattle.flat_parts.specs.Writes.{live_cas};
 
 use crate::data::{Outcome, Step};
-use crate::node::{self, Found, Node};
+use crate::node::{self, Node, Residency};
 use crate::place::Place;
 use crate::{nodes, places};
 use ep_model::{Cause, Meta, NoMemory, Out, Reply, Ticket, VbState, rules, status};
@@ -115,11 +115,11 @@ impl FlatStripe {
     }
 
     /// What memory has under a key. Its cost is linear in the number of nodes.
-    pub fn find(&self, key: &[u8]) -> Found
+    pub fn find(&self, key: &[u8]) -> Residency
         ensures { result ≡ found_of (node_at self.now.nodes key.now) }
     {
         match self.node(key) {
-            None => Found::Nothing,
+            None => Residency::Nothing,
             Some(node) => node.found(),
         }
     }

@@ -2,7 +2,7 @@
 ghost use Rattle.ep_model.specs.Limits.{IsKey, IsValue};
 
 use crate::data::{Outcome, Step};
-use crate::node::Found;
+use crate::node::Residency;
 use crate::queue::FlatQueue;
 use crate::stripe::FlatStripe;
 use crate::write::write;
@@ -68,7 +68,7 @@ fn expect(
 
 /// Puts the value back that was ejected.
 fn put_back(rt: &impl Abort, stripe: &mut FlatStripe, value: Vec<u8>) {
-    let Found::Ejected(meta) = stripe.find(b"Hello") else {
+    let Residency::Ejected(meta) = stripe.find(b"Hello") else {
         panic!(rt; "the value isn't away");
     };
     assert!(rt; value.len() <= MAX_VALUE && meta.len as usize == value.len());

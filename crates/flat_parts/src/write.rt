@@ -1,6 +1,6 @@
 // A Set on its stripe and the queue.
 ghost use Rattle.std.specs.Prelude.{◌≡◌, ◌+◌, ◌<◌, ◌^◌, length, IfOk, OnOk, OnErr};
-ghost use Rattle.ep_model.specs.Limits.{IsKey, IsValue};
+ghost use Rattle.ep_model.specs.Limits.{IsKey, IsMoment, IsValue};
 ghost use Rattle.ep_model.specs.Plain.{IsSound};
 ghost use Rattle.ep_model.specs.Answer.{Puts};
 ghost use Rattle.ep_model.specs.World.{doc_from};
@@ -35,7 +35,7 @@ pub fn write(
 ) -> Result<Step, NoMemory>
     requires key { IsKey key.now }
     requires value { IsValue value.now }
-    requires moment { now < 2 ^ 62 }
+    requires moment { IsMoment now }
     ensures step { IfOk result (λ step. step
         ≡ (write_step stripe.old queue.old fit prior key.now value.now flags expiration cas now).step) }
     ensures stripe { OnOk result (stripe.new
@@ -65,12 +65,13 @@ pub fn write(
         deleted: false,
         len: value.len() as u32,
     };
+    let uuid = queue.uuid();
     put(alloc, stripe, queue, prior, key, meta, value)?;
     Ok(Step::Done(Reply {
         status: status::SUCCESS,
         cas: meta.cas,
         flags: 0,
-        uuid: 0,
+        uuid,
         seqno: meta.seqno,
     }))
 }

@@ -6,8 +6,8 @@ use Rattle.std.specs.Ordering.{nat_cmp, eq_by_cmp}
 use Rattle.std.specs.Cmp.Lexicographic.{slice_cmp, nat_list_cmp_total, texts_ties}
 use Rattle.std.specs.FinMap.{empty, insert, get, get-insert, same_map, IsAntisymmetric, slice_cmp-IsAntisymmetric, nat_cmp-IsAntisymmetric}
 use Rattle.std.specs.Str.{bytes_eq}
-use Rattle.ep_model.specs.World.{Doc, Docs}
-use Rattle.kv_keeper.specs.Batch.{Entry, has_row, with_row, laid, AreDistinct}
+use Rattle.ep_model.specs.World.{Doc, Docs, Item}
+use Rattle.kv_keeper.specs.Batch.{has_row, with_row, laid, AreDistinct}
 use Rattle.kv_keeper.specs.Rows.{docs_of}
 
 -- only equal keys tie
@@ -61,7 +61,7 @@ insert-swap docs x y a b differ =
     ∙ ap (cond (eq_by_cmp (slice_cmp nat_cmp) q y) (Some b)) (get-insert nat_list_cmp_total docs x a q)))
 
 -- one more row inserts its document over what the rows before made
-pub laid-with_row : (rows : List Entry) (key : List ℕ) (doc : Doc) (docs : Docs) → laid (with_row rows key doc) docs ≡ insert (laid rows docs) key doc
+pub laid-with_row : (rows : List Item) (key : List ℕ) (doc : Doc) (docs : Docs) → laid (with_row rows key doc) docs ≡ insert (laid rows docs) key doc
 laid-with_row [] key doc docs = refl
 laid-with_row (row ∷ rows) key doc docs =
     elim (bytes_eq row.0 key) as (λ b. bytes_eq row.0 key ≡ b → laid (cond b ((key, doc) ∷ rows) (row ∷ with_row rows key doc)) docs ≡ insert (laid (row ∷ rows) docs) key doc) [
@@ -74,17 +74,17 @@ laid-with_row (row ∷ rows) key doc docs =
     ] refl
 
 -- a row behind the others is laid first
-pub laid-push : (rows : List Entry) (row : Entry) (docs : Docs) → laid (rows ++ row ∷ []) docs ≡ laid rows (insert docs row.0 row.1)
+pub laid-push : (rows : List Item) (row : Item) (docs : Docs) → laid (rows ++ row ∷ []) docs ≡ laid rows (insert docs row.0 row.1)
 laid-push [] row docs = refl
 laid-push (first ∷ rows) row docs = ap (λ m. insert m first.0 first.1) (laid-push rows row docs)
 
 -- the documents of rows are the rows laid over none
-pub docs_of-laid : (rows : List Entry) → docs_of rows ≡ laid rows empty
+pub docs_of-laid : (rows : List Item) → docs_of rows ≡ laid rows empty
 docs_of-laid [] = refl
 docs_of-laid (row ∷ rows) = ap (λ m. insert m row.0 row.1) (docs_of-laid rows)
 
 -- and so are those of one row more
-pub docs_of-with_row : (rows : List Entry) (key : List ℕ) (doc : Doc) → docs_of (with_row rows key doc) ≡ insert (docs_of rows) key doc
+pub docs_of-with_row : (rows : List Item) (key : List ℕ) (doc : Doc) → docs_of (with_row rows key doc) ≡ insert (docs_of rows) key doc
 docs_of-with_row rows key doc =
     docs_of-laid (with_row rows key doc) ∙ laid-with_row rows key doc empty ∙ ap (λ m. insert m key doc) (sym (docs_of-laid rows))
 
@@ -102,7 +102,7 @@ or-none true = refl
 or-none false = refl
 
 -- which keys have a row, once there is one more
-pub has_row-with_row : (rows : List Entry) (key : List ℕ) (doc : Doc) (q : List ℕ) → has_row (with_row rows key doc) q ≡ (has_row rows q || bytes_eq key q)
+pub has_row-with_row : (rows : List Item) (key : List ℕ) (doc : Doc) (q : List ℕ) → has_row (with_row rows key doc) q ≡ (has_row rows q || bytes_eq key q)
 has_row-with_row [] key doc q = or-none (bytes_eq key q)
 has_row-with_row (row ∷ rows) key doc q =
     elim (bytes_eq row.0 key) as (λ b. bytes_eq row.0 key ≡ b → has_row (cond b ((key, doc) ∷ rows) (row ∷ with_row rows key doc)) q ≡ (has_row (row ∷ rows) q || bytes_eq key q)) [
@@ -115,7 +115,7 @@ has_row-with_row (row ∷ rows) key doc q =
     ] refl
 
 -- no key has two rows, once there is one more
-pub distinct-with_row : (rows : List Entry) (key : List ℕ) (doc : Doc) → AreDistinct rows → AreDistinct (with_row rows key doc)
+pub distinct-with_row : (rows : List Item) (key : List ℕ) (doc : Doc) → AreDistinct rows → AreDistinct (with_row rows key doc)
 distinct-with_row [] key doc h = (refl, tt)
 distinct-with_row (row ∷ rows) key doc h =
     elim (bytes_eq row.0 key) as (λ b. bytes_eq row.0 key ≡ b → AreDistinct (cond b ((key, doc) ∷ rows) (row ∷ with_row rows key doc))) [
@@ -135,7 +135,7 @@ one_more true m n e = omega arith
 one_more false m n e = omega arith
 
 -- how many rows there are, once there is one more
-pub length-with_row : (rows : List Entry) (key : List ℕ) (doc : Doc) → length (with_row rows key doc) ≡ cond (has_row rows key) (length rows) (length rows + 1)
+pub length-with_row : (rows : List Item) (key : List ℕ) (doc : Doc) → length (with_row rows key doc) ≡ cond (has_row rows key) (length rows) (length rows + 1)
 length-with_row [] key doc = refl
 length-with_row (row ∷ rows) key doc =
     elim (bytes_eq row.0 key) as (λ b. length (cond b ((key, doc) ∷ rows) (row ∷ with_row rows key doc)) ≡ cond (b || has_row rows key) (length (row ∷ rows)) (length (row ∷ rows) + 1)) [

@@ -12,16 +12,16 @@ use Rattle.std.specs.FinMap.{get, get-from_entries}
 use Rattle.std.specs.FinMap.Entries.{find}
 use Rattle.std.specs.List.{position_from}
 use Rattle.std.specs.Str.{bytes_eq}
-use Rattle.ep_model.specs.World.{Doc}
+use Rattle.ep_model.specs.World.{Doc, Item}
 use Rattle.kv_keeper.specs.declared.row.Row.{Row}
 use Rattle.std.proofs.lemmas.List.{map_push, map_more}
 use Rattle.kv_keeper.specs.declared.data.BatchData.{BatchData}
 use Rattle.kv_keeper.specs.declared.keeper.StoreState.{StoreState}
-use Rattle.kv_keeper.specs.Batch.{AreDistinct, AreWithin, Entry, laid, with_row}
+use Rattle.kv_keeper.specs.Batch.{AreDistinct, AreWithin, laid, with_row}
 use Rattle.ep_model.specs.Counts.{raised}
 use Rattle.kv_keeper.specs.Memory.{MemoryData, is_failing, after_get}
 use Rattle.kv_keeper.proofs.BatchLemmas.{laid-push, docs_of-with_row}
-use Rattle.kv_keeper.specs.Rows.{doc_of, entry_of, entries_of, docs_of, place_of, memory_of}
+use Rattle.kv_keeper.specs.Rows.{row_doc, entry_of, entries_of, docs_of, place_of, memory_of}
 
 -- a row's key and value are within their limits
 pub rows-within : (rows : List Row) → AreWithin (entries_of rows)
@@ -44,30 +44,30 @@ first (row ∷ rows) key n m e =
     ] refl e
 
 -- a row in place of the first of its key
-put-at : (rows : List Row) (new : Row) (k : ℕ) → IsFirstAt rows new.key.items k → entries_of (set rows k new) ≡ with_row (entries_of rows) new.key.items (doc_of new)
+put-at : (rows : List Row) (new : Row) (k : ℕ) → IsFirstAt rows new.key.items k → entries_of (set rows k new) ≡ with_row (entries_of rows) new.key.items (row_doc new)
 put-at [] new k at = absurd at
 put-at (row ∷ rows) new zero at =
-    sym (ap (λ b. cond b (entry_of new ∷ entries_of rows) (entry_of row ∷ with_row (entries_of rows) new.key.items (doc_of new))) at)
+    sym (ap (λ b. cond b (entry_of new ∷ entries_of rows) (entry_of row ∷ with_row (entries_of rows) new.key.items (row_doc new))) at)
 put-at (row ∷ rows) new (suc k) at =
     ap (λ entries. entry_of row ∷ entries) (put-at rows new k at.1)
-    ∙ sym (ap (λ b. cond b (entry_of new ∷ entries_of rows) (entry_of row ∷ with_row (entries_of rows) new.key.items (doc_of new))) at.0)
+    ∙ sym (ap (λ b. cond b (entry_of new ∷ entries_of rows) (entry_of row ∷ with_row (entries_of rows) new.key.items (row_doc new))) at.0)
 
-pub put-place : (rows : List Row) (new : Row) (m : ℕ) → place_of rows new.key.items ≡ Some m → entries_of (set rows m new) ≡ with_row (entries_of rows) new.key.items (doc_of new)
+pub put-place : (rows : List Row) (new : Row) (m : ℕ) → place_of rows new.key.items ≡ Some m → entries_of (set rows m new) ≡ with_row (entries_of rows) new.key.items (row_doc new)
 put-place rows new m e =
     let r = first rows new.key.items 0 m e in
     let same : r.0 ≡ m = omega arith in
     ap (λ k. entries_of (set rows k new)) (sym same) ∙ put-at rows new r.0 r.2
 
 -- a row behind the others, where its key has none
-put-behind : (rows : List Row) (new : Row) (n : ℕ) → position_from (λ (row : Row). bytes_eq row.key.items new.key.items) n rows ≡ None → entries_of (rows ++ new ∷ []) ≡ with_row (entries_of rows) new.key.items (doc_of new)
+put-behind : (rows : List Row) (new : Row) (n : ℕ) → position_from (λ (row : Row). bytes_eq row.key.items new.key.items) n rows ≡ None → entries_of (rows ++ new ∷ []) ≡ with_row (entries_of rows) new.key.items (row_doc new)
 put-behind [] new n e = refl
 put-behind (row ∷ rows) new n e =
-    elim (bytes_eq row.key.items new.key.items) as (λ b. cond b (Some n) (position_from (λ (row : Row). bytes_eq row.key.items new.key.items) (n + 1) rows) ≡ None → entries_of ((row ∷ rows) ++ new ∷ []) ≡ cond b (entry_of new ∷ entries_of rows) (entry_of row ∷ with_row (entries_of rows) new.key.items (doc_of new))) [
+    elim (bytes_eq row.key.items new.key.items) as (λ b. cond b (Some n) (position_from (λ (row : Row). bytes_eq row.key.items new.key.items) (n + 1) rows) ≡ None → entries_of ((row ∷ rows) ++ new ∷ []) ≡ cond b (entry_of new ∷ entries_of rows) (entry_of row ∷ with_row (entries_of rows) new.key.items (row_doc new))) [
       | true ↦ λ e. absurd (cc)
       | false ↦ λ e. ap (λ entries. entry_of row ∷ entries) (put-behind rows new (n + 1) e)
     ] e
 
-pub put-end : (rows : List Row) (new : Row) → place_of rows new.key.items ≡ None → entries_of (rows ++ new ∷ []) ≡ with_row (entries_of rows) new.key.items (doc_of new)
+pub put-end : (rows : List Row) (new : Row) → place_of rows new.key.items ≡ None → entries_of (rows ++ new ∷ []) ≡ with_row (entries_of rows) new.key.items (row_doc new)
 put-end rows new e = put-behind rows new 0 e
 
 -- what a scan of the entries has under a key
@@ -84,14 +84,14 @@ missing [] key n e = refl
 missing (row ∷ rows) key n e =
     elim (bytes_eq row.key.items key) as (λ b. bytes_eq row.key.items key ≡ b → cond b (Some n) (position_from (λ (row : Row). bytes_eq row.key.items key) (n + 1) rows) ≡ None → scanned (row ∷ rows) key ≡ None) [
       | true ↦ λ is e. absurd (cc)
-      | false ↦ λ is e. ap (λ b. cond b (Some (doc_of row)) (scanned rows key)) (sym (tie row.key.items key) ∙ is) ∙ missing rows key (n + 1) e
+      | false ↦ λ is e. ap (λ b. cond b (Some (row_doc row)) (scanned rows key)) (sym (tie row.key.items key) ∙ is) ∙ missing rows key (n + 1) e
     ] refl e
 
 -- where the first row of a key stands, there stands what a scan has
-found : (rows : List Row) (key : List ℕ) (k : ℕ) → IsFirstAt rows key k → scanned rows key ≡ option_map doc_of (slice_get rows k)
+found : (rows : List Row) (key : List ℕ) (k : ℕ) → IsFirstAt rows key k → scanned rows key ≡ option_map row_doc (slice_get rows k)
 found [] key k at = absurd at
-found (row ∷ rows) key zero at = ap (λ b. cond b (Some (doc_of row)) (scanned rows key)) (sym (tie row.key.items key) ∙ at)
-found (row ∷ rows) key (suc k) at = ap (λ b. cond b (Some (doc_of row)) (scanned rows key)) (sym (tie row.key.items key) ∙ at.0) ∙ found rows key k at.1
+found (row ∷ rows) key zero at = ap (λ b. cond b (Some (row_doc row)) (scanned rows key)) (sym (tie row.key.items key) ∙ at)
+found (row ∷ rows) key (suc k) at = ap (λ b. cond b (Some (row_doc row)) (scanned rows key)) (sym (tie row.key.items key) ∙ at.0) ∙ found rows key k at.1
 
 -- what the map has under a key is what a scan has
 get-docs_of : (rows : List Row) (q : List ℕ) → get (docs_of (entries_of rows)) q ≡ scanned rows q
@@ -102,26 +102,26 @@ pub get-missing : (rows : List Row) (key : List ℕ) → place_of rows key ≡ N
 get-missing rows key e = sym (get-docs_of rows key ∙ missing rows key 0 e)
 
 -- the row at the place of a key has the key's document
-pub get-found : (rows : List Row) (key : List ℕ) (m : ℕ) (row : Row) → place_of rows key ≡ Some m → m < length rows → row ≡ get_or rows m row → Some (doc_of row) ≡ get (docs_of (entries_of rows)) key
+pub get-found : (rows : List Row) (key : List ℕ) (m : ℕ) (row : Row) → place_of rows key ≡ Some m → m < length rows → row ≡ get_or rows m row → Some (row_doc row) ≡ get (docs_of (entries_of rows)) key
 get-found rows key m row e within is =
     let r = first rows key 0 m e in
     let same : r.0 ≡ m = omega arith in
-    sym (get-docs_of rows key ∙ found rows key r.0 r.2 ∙ ap (λ k. option_map doc_of (slice_get rows k)) same ∙ ap (option_map doc_of) (slice_get_read rows (length rows) m row refl within is))
+    sym (get-docs_of rows key ∙ found rows key r.0 r.2 ∙ ap (λ k. option_map row_doc (slice_get rows k)) same ∙ ap (option_map row_doc) (slice_get_read rows (length rows) m row refl within is))
 
 -- the last row was laid, and the rest is still to be
-pub lay-last : (more rest : List Row) (row : Row) (old new : List Row) → more ≡ rest ++ row ∷ [] → entries_of new ≡ with_row (entries_of old) row.key.items (doc_of row) → laid (entries_of rest) (docs_of (entries_of new)) ≡ laid (entries_of more) (docs_of (entries_of old))
+pub lay-last : (more rest : List Row) (row : Row) (old new : List Row) → more ≡ rest ++ row ∷ [] → entries_of new ≡ with_row (entries_of old) row.key.items (row_doc row) → laid (entries_of rest) (docs_of (entries_of new)) ≡ laid (entries_of more) (docs_of (entries_of old))
 lay-last more rest row old new more-is new-is =
-    ap (λ (entries : List Entry). laid (entries_of rest) (docs_of entries)) new-is
-    ∙ ap (laid (entries_of rest)) (docs_of-with_row (entries_of old) row.key.items (doc_of row))
+    ap (λ (entries : List Item). laid (entries_of rest) (docs_of entries)) new-is
+    ∙ ap (laid (entries_of rest)) (docs_of-with_row (entries_of old) row.key.items (row_doc row))
     ∙ sym (laid-push (entries_of rest) (entry_of row) (docs_of (entries_of old)))
-    ∙ sym (ap (λ (entries : List Entry). laid entries (docs_of (entries_of old))) (ap (λ (rows : List Row). entries_of rows) more-is ∙ map_push entry_of rest row))
+    ∙ sym (ap (λ (entries : List Item). laid entries (docs_of (entries_of old))) (ap (λ (rows : List Row). entries_of rows) more-is ∙ map_push entry_of rest row))
 
 -- one more row was copied
-pub copied-more : (rows copies : List Row) (i : ℕ) (row copy : Row) → i < length rows → row ≡ get_or rows i row → entries_of copies ≡ entries_of (take i rows) → copy.key.items ≡ row.key.items → doc_of copy ≡ doc_of row → entries_of (copies ++ copy ∷ []) ≡ entries_of (take (i + 1) rows)
+pub copied-more : (rows copies : List Row) (i : ℕ) (row copy : Row) → i < length rows → row ≡ get_or rows i row → entries_of copies ≡ entries_of (take i rows) → copy.key.items ≡ row.key.items → row_doc copy ≡ row_doc row → entries_of (copies ++ copy ∷ []) ≡ entries_of (take (i + 1) rows)
 copied-more rows copies i row copy within is before key-is doc-is =
     map_push entry_of copies copy
-    ∙ ap (λ (entries : List Entry). entries ++ entry_of copy ∷ []) before
-    ∙ ap (λ (key : List ℕ). entries_of (take i rows) ++ (key, doc_of copy) ∷ []) key-is
+    ∙ ap (λ (entries : List Item). entries ++ entry_of copy ∷ []) before
+    ∙ ap (λ (key : List ℕ). entries_of (take i rows) ++ (key, row_doc copy) ∷ []) key-is
     ∙ ap (λ (doc : Doc). entries_of (take i rows) ++ (row.key.items, doc) ∷ []) doc-is
     ∙ ap (λ (r : Row). entries_of (take i rows) ++ entry_of r ∷ []) is
     ∙ sym (map_more entry_of rows i row within)
@@ -139,11 +139,11 @@ pub batch-distinct : (batch : BatchData) (rows : List Row) (to maxcas : ℕ) →
 batch-distinct batch rows to maxcas is h = subst (λ (b : BatchData). AreDistinct b.rows) is h
 
 -- the rows of a batch to which one was added
-pub added : (batch : BatchData) (rows reserved new : List Row) (to maxcas : ℕ) (row : Row) (key : List ℕ) (doc : Doc) → ◌≡◌ {A = BatchData} (record { rows = entries_of rows; to = to; maxcas = maxcas }) batch → reserved ≡ rows → entries_of new ≡ with_row (entries_of reserved) row.key.items (doc_of row) → row.key.items ≡ key → doc_of row ≡ doc → entries_of new ≡ with_row batch.rows key doc
+pub added : (batch : BatchData) (rows reserved new : List Row) (to maxcas : ℕ) (row : Row) (key : List ℕ) (doc : Doc) → ◌≡◌ {A = BatchData} (record { rows = entries_of rows; to = to; maxcas = maxcas }) batch → reserved ≡ rows → entries_of new ≡ with_row (entries_of reserved) row.key.items (row_doc row) → row.key.items ≡ key → row_doc row ≡ doc → entries_of new ≡ with_row batch.rows key doc
 added batch rows reserved new to maxcas row key doc is reserved-is new-is key-is doc-is =
     new-is
-    ∙ ap (λ (xs : List Row). with_row (entries_of xs) row.key.items (doc_of row)) reserved-is
-    ∙ ap (λ (k : List ℕ). with_row (entries_of rows) k (doc_of row)) key-is
+    ∙ ap (λ (xs : List Row). with_row (entries_of xs) row.key.items (row_doc row)) reserved-is
+    ∙ ap (λ (k : List ℕ). with_row (entries_of rows) k (row_doc row)) key-is
     ∙ ap (λ (d : Doc). with_row (entries_of rows) key d) doc-is
     ∙ ap (λ (b : BatchData). with_row b.rows key doc) is
 

@@ -23,16 +23,16 @@ abbrev pub with_keeper_faults : DeskData → ℕ → DeskData
 with_keeper_faults desk faults = record desk { keeper = record desk.keeper { faults = faults } }
 
 -- a desk of which one more read failed
-pub record HasFailedRead (old new : DeskData) : Type 0 where
+pub record OneReadFailed (old new : DeskData) : Type 0 where
   pub left : new ≡ record (with_keeper_faults old new.keeper.faults) { read_faults = old.read_faults + 1 }
   pub faults : old.keeper.faults ≤ new.keeper.faults
   pub rose : Rose old.keeper.faults new.keeper.faults
 
 -- what a read leaves of a desk: only one that failed changes anything
-abbrev pub LeavesDesk : {T : Type 0} → DeskData → DeskData → Kept T → Type 0
-LeavesDesk old new (Good x) = new ≡ old
-LeavesDesk old new Failed = HasFailedRead old new
-LeavesDesk old new NoMemory = new ≡ old
+abbrev pub ReadLeaves : {T : Type 0} → DeskData → DeskData → Kept T → Type 0
+ReadLeaves old new (Good x) = new ≡ old
+ReadLeaves old new Failed = OneReadFailed old new
+ReadLeaves old new NoMemory = new ≡ old
 
 -- a desk after a commit up to a number that was answered so and left it this keeper
 abbrev pub after_commit : {T : Type 0} → KeeperData → DeskData → ℕ → Kept T → DeskData

@@ -29,16 +29,16 @@ abbrev pub state_of : Content → StoreState
 state_of content = record { version = content.version; high = content.high; maxcas = content.maxcas }
 
 -- A store failed, and what it holds is as it was, told or not.
-pub record HasFailed (old new : KeeperData) : Type 0 where
+pub record StoreFailed (old new : KeeperData) : Type 0 where
   pub left : new ≡ record old { faults = new.faults }
   pub faults : old.faults ≤ new.faults
   pub rose : Rose old.faults new.faults
 
 -- A call that commits nothing leaves a store as it was, told or not. Its faults are counted where it failed, and nowhere else.
-abbrev pub Leaves : {T : Type 0} → KeeperData → KeeperData → Kept T → Type 0
-Leaves old new (Good x) = new ≡ old
-Leaves old new Failed = HasFailed old new
-Leaves old new NoMemory = new ≡ old
+abbrev pub LeavesKeeper : {T : Type 0} → KeeperData → KeeperData → Kept T → Type 0
+LeavesKeeper old new (Good x) = new ≡ old
+LeavesKeeper old new Failed = StoreFailed old new
+LeavesKeeper old new NoMemory = new ≡ old
 
 -- what a read appends to its buffer: the value of the document that it found
 abbrev pub Appends : OutData → OutData → Kept (Option Meta) → Type 0
@@ -60,6 +60,7 @@ pub record IsDoubtful (old : KeeperData) (whole : Option Content) (new : KeeperD
   pub which : ((new.content ≡ old.content) × (new.second ≡ whole)) ⊎ ((new.content ≡ whole) × (new.second ≡ old.content))
   pub doubtful : new.sure ≡ false
   pub ample : new.ample ≡ old.ample
+  pub roomy : new.roomy ≡ old.roomy
   pub faults : old.faults ≤ new.faults
   pub rose : Rose old.faults new.faults
 

@@ -1,5 +1,5 @@
 -- A store in memory, and what calls on it answer and leave.
-use Rattle.std.specs.Prelude.{ℕ, ◌+◌, ◌-◌, ◌^◌, min, Bool, true, ◌==◌, if◌then◌else◌, List, ◌++◌, refl, Option, Some, None}
+use Rattle.std.specs.Prelude.{ℕ, ◌+◌, ◌-◌, ◌^◌, min, Bool, true, false, ◌==◌, if◌then◌else◌, List, ◌++◌, refl, Option, Some, None}
 use Rattle.std.specs.Coded.{Coded, code_by, coded×, coded_ℕ, coded_list}
 use Rattle.std.specs.FinMap as map
 use Rattle.std.specs.List.{list_any}
@@ -51,11 +51,11 @@ abbrev pub after_get : MemoryData → MemoryData
 after_get memory = record memory { gets = raised memory.gets; faults = if is_failing memory then raised memory.faults else memory.faults }
 
 -- one commit later, which was answered so
-abbrev pub after_commit : {T : Type 0} → MemoryData → BatchData → StoreState → Kept T → MemoryData
-after_commit memory batch state (Good x) = record memory { content = committed memory.content batch state }
-after_commit memory batch state Failed = memory
-after_commit memory batch state NoMemory = memory
+abbrev pub memory_after_commit : {T : Type 0} → MemoryData → BatchData → StoreState → Kept T → MemoryData
+memory_after_commit memory batch state (Good x) = record memory { content = committed memory.content batch state }
+memory_after_commit memory batch state Failed = memory
+memory_after_commit memory batch state NoMemory = memory
 
 -- what is seen of it whatever keeps it
 abbrev pub keeper_of : MemoryData → KeeperData
-keeper_of memory = record { content = Some memory.content; second = None; sure = true; faults = memory.faults; ample = true }
+keeper_of memory = record { content = Some memory.content; second = None; sure = true; faults = memory.faults; ample = true; roomy = false }

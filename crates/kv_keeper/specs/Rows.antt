@@ -3,25 +3,24 @@ use Rattle.std.specs.Prelude.{ℕ, List, map, Option}
 use Rattle.std.specs.FinMap as finmap
 use Rattle.std.specs.List.{position_from}
 use Rattle.std.specs.Str.{bytes_eq}
-use Rattle.ep_model.specs.World.{Doc, Docs}
+use Rattle.ep_model.specs.World.{Doc, Docs, Item}
 use Rattle.kv_keeper.specs.declared.row.Row.{Row}
 use Rattle.kv_keeper.specs.declared.keeper.StoreState.{StoreState}
 use Rattle.ep_model.specs.World.{doc_from}
-use Rattle.kv_keeper.specs.Batch.{Entry}
 use Rattle.kv_keeper.specs.Memory.{MemoryData}
 
 -- a row's document without where its bytes lie
-abbrev pub doc_of : Row → Doc
-doc_of row = doc_from row.meta row.value.items
+abbrev pub row_doc : Row → Doc
+row_doc row = doc_from row.meta row.value.items
 
-abbrev pub entry_of : Row → Entry
-entry_of row = (row.key.items, doc_of row)
+abbrev pub entry_of : Row → Item
+entry_of row = (row.key.items, row_doc row)
 
-abbrev pub entries_of : List Row → List Entry
+abbrev pub entries_of : List Row → List Item
 entries_of rows = map entry_of rows
 
 -- the documents by their keys; of two under one key the first counts
-abbrev pub docs_of : List Entry → Docs
+abbrev pub docs_of : List Item → Docs
 docs_of entries = finmap.from_entries entries
 
 -- where the first row of a key stands

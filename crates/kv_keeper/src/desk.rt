@@ -6,10 +6,9 @@ ghost use Rattle.ep_model.specs.Limits.{IsKey};
 ghost use Rattle.ep_model.specs.Plain.{value_of};
 ghost use Rattle.ep_model.specs.Limits.{max_value};
 ghost use Rattle.ep_model.specs.World.{meta_of};
-ghost use Rattle.kv_keeper.specs.Batch.{AreWithin};
 ghost use Rattle.kv_keeper.specs.Content.{Content};
-ghost use Rattle.kv_keeper.specs.Kept.{Appends, Commits, IfGood, Leaves, OnNoMemory, state_of};
-ghost use Rattle.kv_keeper.specs.Desk.{IsSure, LeavesDesk, RoseBy, after_commit, new_desk};
+ghost use Rattle.kv_keeper.specs.Kept.{Appends, Commits, IfGood, LeavesKeeper, OnNoMemory, state_of};
+ghost use Rattle.kv_keeper.specs.Desk.{IsSure, ReadLeaves, RoseBy, after_commit, new_desk};
 
 use crate::{Batch, Keeper, Kept, StoreState};
 use ep_model::{Meta, Out};
@@ -106,7 +105,8 @@ impl<K: Keeper> Desk<K> {
         requires sure { IsSure self.old }
         ensures good { IfGood result (λ state.
             (c : Content) → self.old.keeper.content ≡ Some c → state ≡ state_of c) }
-        ensures left { Leaves self.old.keeper self.new.keeper result }
+        ensures left { LeavesKeeper self.old.keeper self.new.keeper result }
+        ensures memory { OnNoMemory result (self.old.keeper.ample ≡ false) }
         ensures after { self.new ≡ record self.old { keeper = self.new.keeper } }
     {
         self.keeper.state(alloc)
@@ -127,7 +127,7 @@ impl<K: Keeper> Desk<K> {
         ensures room { value.new.spare + length value.new.bytes
             ≡ value.old.spare + length value.old.bytes }
 
-        ensures left { LeavesDesk self.old self.new result }
+        ensures left { ReadLeaves self.old self.new result }
         ensures memory { OnNoMemory result
             ((self.old.keeper.ample ≡ false) ⊎ (self.old.read_faults ≡ 2 ^ 64 - 1)) }
         ensures exhausted { self.old.read_faults ≡ 2 ^ 64 - 1 →
@@ -151,8 +151,8 @@ impl<K: Keeper> Desk<K> {
     /// batch's number; where it failed, the desk is no longer sure.
     pub fn commit(&mut self, alloc: Global, batch: &Batch, state: &StoreState) -> Kept<()>
         requires sure { IsSure self.old }
-        requires within { AreWithin batch.now.rows }
         ensures commits { Commits self.old.keeper batch.now state.now self.new.keeper result }
+        ensures memory { OnNoMemory result (self.old.keeper.roomy ≡ false) }
         ensures after { self.new ≡ after_commit self.new.keeper self.old batch.now.to result }
     {
         let went = self.keeper.commit(alloc, batch, state);

@@ -6,9 +6,8 @@ ghost use Rattle.ep_model.specs.Limits.{IsKey};
 ghost use Rattle.ep_model.specs.Plain.{value_of};
 ghost use Rattle.ep_model.specs.Limits.{max_value};
 ghost use Rattle.ep_model.specs.World.{meta_of};
-ghost use Rattle.kv_keeper.specs.Batch.{AreWithin};
 ghost use Rattle.kv_keeper.specs.Content.{Content, KeeperData};
-ghost use Rattle.kv_keeper.specs.Kept.{Appends, Commits, IfGood, Leaves, OnNoMemory, state_of};
+ghost use Rattle.kv_keeper.specs.Kept.{Appends, Commits, IfGood, LeavesKeeper, OnNoMemory, state_of};
 
 use crate::Batch;
 use ep_model::{Meta, Out};
@@ -44,7 +43,8 @@ pub trait Keeper: Drop {
         requires sure { (seen self.old).sure ≡ true }
         ensures good { IfGood result (λ state.
             (c : Content) → (seen self.old).content ≡ Some c → state ≡ state_of c) }
-        ensures left { Leaves (seen self.old) (seen self.new) result };
+        ensures left { LeavesKeeper (seen self.old) (seen self.new) result }
+        ensures memory { OnNoMemory result ((seen self.old).ample ≡ false) };
 
     /// The metadata of a key's document, deleted or not, whose value is appended to `value`; or `None`, where it
     /// has no document of the key. Any other answer leaves `value` as it was.
@@ -63,13 +63,13 @@ pub trait Keeper: Drop {
         ensures room { value.new.spare + length value.new.bytes
             ≡ value.old.spare + length value.old.bytes }
 
-        ensures left { Leaves (seen self.old) (seen self.new) result }
+        ensures left { LeavesKeeper (seen self.old) (seen self.new) result }
         ensures memory { OnNoMemory result ((seen self.old).ample ≡ false) };
 
     /// Lays the batch over the documents and sets the numbers. After `Failed` it may have done that, or nothing
     /// of it; after `NoMemory` it has done nothing.
     fn commit(&mut self, alloc: Global, batch: &Batch, state: &StoreState) -> Kept<()>
         requires sure { (seen self.old).sure ≡ true }
-        requires within { AreWithin batch.now.rows }
-        ensures commits { Commits (seen self.old) batch.now state.now (seen self.new) result };
+        ensures commits { Commits (seen self.old) batch.now state.now (seen self.new) result }
+        ensures memory { OnNoMemory result ((seen self.old).roomy ≡ false) };
 }

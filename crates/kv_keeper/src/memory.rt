@@ -7,10 +7,9 @@ ghost use Rattle.ep_model.specs.Limits.{IsKey};
 ghost use Rattle.ep_model.specs.Plain.{value_of};
 ghost use Rattle.ep_model.specs.Limits.{max_value};
 ghost use Rattle.ep_model.specs.World.{meta_of};
-ghost use Rattle.kv_keeper.specs.Batch.{AreWithin};
 ghost use Rattle.kv_keeper.specs.Content.{Content};
-ghost use Rattle.kv_keeper.specs.Kept.{Appends, Commits, IfGood, Leaves, OnNoMemory, state_of};
-ghost use Rattle.kv_keeper.specs.Memory.{empty_memory, get_answer, get_bytes, after_get, after_commit, keeper_of};
+ghost use Rattle.kv_keeper.specs.Kept.{Appends, Commits, IfGood, LeavesKeeper, OnNoMemory, state_of};
+ghost use Rattle.kv_keeper.specs.Memory.{empty_memory, get_answer, get_bytes, after_get, memory_after_commit, keeper_of};
 
 use crate::row::Row;
 use crate::{Batch, Keeper, Kept, StoreState, rows};
@@ -71,7 +70,8 @@ impl Keeper for MemoryKeeper {
     fn state(&mut self, _alloc: Global) -> Kept<StoreState>
         ensures good { IfGood result (λ state.
             (c : Content) → (keeper_of self.old).content ≡ Some c → state ≡ state_of c) }
-        ensures left { Leaves (keeper_of self.old) (keeper_of self.new) result }
+        ensures left { LeavesKeeper (keeper_of self.old) (keeper_of self.new) result }
+        ensures memory { OnNoMemory result ((keeper_of self.old).ample ≡ false) }
         ensures answer { result ≡ Kept.Good (state_of self.old.content) }
         ensures after { self.new ≡ self.old }
     {
@@ -90,7 +90,7 @@ impl Keeper for MemoryKeeper {
         ensures appends { Appends value.old value.new result }
         ensures room { value.new.spare + length value.new.bytes
             ≡ value.old.spare + length value.old.bytes }
-        ensures left { Leaves (keeper_of self.old) (keeper_of self.new) result }
+        ensures left { LeavesKeeper (keeper_of self.old) (keeper_of self.new) result }
         ensures memory { OnNoMemory result ((keeper_of self.old).ample ≡ false) }
         ensures answer { result ≡ get_answer self.old key.now }
         ensures bytes { value.new.bytes ≡ get_bytes self.old key.now value.old.bytes }
@@ -111,10 +111,10 @@ impl Keeper for MemoryKeeper {
     /// Its cost is linear in the product of the numbers of documents and of the batch's rows. Where memory is
     /// wanting, nothing has changed.
     fn commit(&mut self, alloc: Global, batch: &Batch, state: &StoreState) -> Kept<()>
-        requires within { AreWithin batch.now.rows }
         ensures commits { Commits (keeper_of self.old) batch.now state.now (keeper_of self.new) result }
+        ensures memory { OnNoMemory result ((keeper_of self.old).roomy ≡ false) }
         ensures never_fails { result ≡ Kept.Failed → ⊥ }
-        ensures after { self.new ≡ after_commit self.old batch.now state.now result }
+        ensures after { self.new ≡ memory_after_commit self.old batch.now state.now result }
     {
         let Ok(rows) = batch.copies(alloc) else {
             return Kept::NoMemory;

@@ -5,7 +5,7 @@ ghost use Rattle.std.specs.Option.{option_map, option_copied, ForSome};
 ghost use Rattle.ep_model.specs.Limits.{IsKey, IsValue};
 ghost use Rattle.ep_model.specs.World.{doc_from};
 ghost use Rattle.kv_keeper.specs.Batch.{laid, with_row};
-ghost use Rattle.kv_keeper.specs.Rows.{entry_of, entries_of, docs_of, doc_of, place_of};
+ghost use Rattle.kv_keeper.specs.Rows.{entry_of, entries_of, docs_of, row_doc, place_of};
 
 use crate::row::Row;
 use ep_model::{Meta, NoMemory};
@@ -17,7 +17,7 @@ pub(crate) fn copied(alloc: Global, key: &[u8], meta: Meta, value: &[u8]) -> Res
     requires value { IsValue value.now }
     requires len { meta.len ≡ length value.now }
     ensures key { IfOk result (λ row. row.key.items ≡ key.now) }
-    ensures doc { IfOk result (λ row. doc_of row ≡ doc_from meta value.now) }
+    ensures doc { IfOk result (λ row. row_doc row ≡ doc_from meta value.now) }
 {
     let key = key.to_vec(alloc)?;
     let value = value.to_vec(alloc)?;
@@ -45,7 +45,7 @@ fn position_of(rows: &[Row], key: &[u8]) -> Option<usize>
 
 /// The first row of a key.
 pub(crate) fn find<'a>(rows: &'a [Row], key: &[u8]) -> Option<&'a Row>
-    ensures { option_map doc_of (option_copied result)
+    ensures { option_map row_doc (option_copied result)
         ≡ map.get (docs_of (entries_of rows.now)) key.now }
 {
     let place = position_of(rows, key)?;
@@ -56,7 +56,7 @@ pub(crate) fn find<'a>(rows: &'a [Row], key: &[u8]) -> Option<&'a Row>
 pub(crate) fn lay(rows: &mut Vec<Row>, row: Row)
     requires { vec_len rows.old < vec_capacity rows.old }
     ensures rows { entries_of rows.new.items
-        ≡ with_row (entries_of rows.old.items) row.key.items (doc_of row) }
+        ≡ with_row (entries_of rows.old.items) row.key.items (row_doc row) }
     ensures len { vec_len rows.new ≤ vec_len rows.old + 1 }
     ensures capacity { vec_capacity rows.old ≤ vec_capacity rows.new }
 {

@@ -1,7 +1,6 @@
 // Batches, commits and reads with their bytes written out, and a keeper that always fails.
-ghost use Rattle.std.specs.Prelude.{◌≡◌, ◌≤◌, true, IfOk};
+ghost use Rattle.std.specs.Prelude.{◌≡◌, ◌≤◌, true};
 ghost use Rattle.ep_model.specs.Limits.{IsKey};
-ghost use Rattle.kv_keeper.specs.Batch.{AreWithin};
 ghost use Rattle.ep_model.specs.Counts.{Rose};
 ghost use Rattle.ep_model.specs.Counts.{raised};
 
@@ -42,9 +41,7 @@ fn batch_of(
     alloc: Global,
     to: u64,
     rows: &[(u64, &[u8], &[u8])],
-) -> Result<Batch, NoMemory>
-    ensures { IfOk result (λ batch. AreWithin batch.rows) }
-{
+) -> Result<Batch, NoMemory> {
     let mut batch = Batch::new(alloc, to, 7);
     for (seqno, key, value) in rows {
         assert!(rt; !key.is_empty() && key.len() <= 250 && value.len() <= 9);
@@ -93,7 +90,7 @@ impl Broken {
 impl Keeper for Broken {
     ghost use Rattle.std.specs.Prelude.{None, false};
 
-    ghost seen = { λ b. record { content = None; second = None; sure = b.sure; faults = b.faults; ample = false } };
+    ghost seen = { λ b. record { content = None; second = None; sure = b.sure; faults = b.faults; ample = false; roomy = false } };
 
     fn state(&mut self, _alloc: Global) -> Kept<StoreState> {
         self.fail()
@@ -233,6 +230,21 @@ fn a_desk_knows_what_is_stored(rt: HostRuntime) -> Result<(), Fail> {
         Kept::Good(Some(meta(1, 3))),
         b"one",
     )?;
+    Ok(())
+}
+
+#[test]
+fn each_of_four_reads_that_fail_is_answered_so(rt: HostRuntime) -> Result<(), Fail> {
+    let alloc = rt.alloc();
+    let mut desk = Desk::new(MemoryKeeper::new(alloc, vec![in alloc; 0, 1, 2, 3]?));
+    let mut out = Out::new(alloc, MAX_VALUE)?;
+    for faults in 1..5u64 {
+        assert!(rt; desk.is_sure() && out.spare() >= MAX_VALUE);
+        assert_eq!(rt; desk.get(alloc, b"a", &mut out), Kept::Failed);
+        assert_eq!(rt; desk.read_faults(), faults);
+    }
+    assert!(rt; desk.is_sure() && out.spare() >= MAX_VALUE);
+    assert_eq!(rt; desk.get(alloc, b"a", &mut out), Kept::Good(None));
     Ok(())
 }
 

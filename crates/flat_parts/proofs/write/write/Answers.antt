@@ -32,10 +32,10 @@ abbrev put_meta : goal.In_ok-put → Meta
 put_meta c = record { flags = c.args.flags; expiry = c.stored_expiry.result; cas = c.stamp.result; seqno = c.high.result + 1; deleted = false; len = 0 }
 
 -- a Set that stored it
-is-stored : (c : goal.In_ok-put) → write_step c.args.stripe.now c.args.queue.now c.args.fit c.args.prior c.args.key.now c.args.value.now c.args.flags c.args.expiration c.args.cas c.args.now ≡ record { step = Done (record { status = success; cas = c.stamp.result; flags = 0; uuid = 0; seqno = c.high.result + 1 }); stripe = stripe_after (record c.args.stripe.now { places = released c.args.stripe.now.places c.args.prior }) (Puts c.args.key.now (doc_from (put_meta c) c.args.value.now)); queue = queue_after c.args.queue.now (Puts c.args.key.now (doc_from (put_meta c) c.args.value.now)) }
+is-stored : (c : goal.In_ok-put) → write_step c.args.stripe.now c.args.queue.now c.args.fit c.args.prior c.args.key.now c.args.value.now c.args.flags c.args.expiration c.args.cas c.args.now ≡ record { step = Done (record { status = success; cas = c.stamp.result; flags = 0; uuid = c.uuid-uuid.result; seqno = c.high.result + 1 }); stripe = stripe_after (record c.args.stripe.now { places = released c.args.stripe.now.places c.args.prior }) (Puts c.args.key.now (doc_from (put_meta c) c.args.value.now)); queue = queue_after c.args.queue.now (Puts c.args.key.now (doc_from (put_meta c) c.args.value.now)) }
 is-stored c =
-    write-stored c.args.stripe.now c.args.queue.now c.args.fit c.args.prior c.args.key.now c.args.value.now c.args.flags c.args.expiration c.args.cas c.args.now c.refusal.result (put_meta c) c.maxcas.result c.high.result
-    (sym c.is_opened.ensures ∙ c.if-not-is_opened.false) c.refusal.ensures c.in_default.is c.maxcas.ensures.maxcas c.high.ensures.high refl c.stored_expiry.ensures c.stamp.ensures refl refl
+    write-stored c.args.stripe.now c.args.queue.now c.args.fit c.args.prior c.args.key.now c.args.value.now c.args.flags c.args.expiration c.args.cas c.args.now c.refusal.result (put_meta c) c.maxcas.result c.high.result c.uuid-uuid.result
+    (sym c.is_opened.ensures ∙ c.if-not-is_opened.false) c.refusal.ensures c.in_default.is c.maxcas.ensures.maxcas c.high.ensures.high c.uuid-uuid.ensures refl c.stored_expiry.ensures c.stamp.ensures refl refl
 
 pub returns-clause-step : goal.returns-clause-step
 returns-clause-step c = sym (ap (λ (w : WriteData). w.step) (is-stored c))
@@ -50,6 +50,6 @@ returns-clause-queue c = c.in_ok-put.ensures.queue ∙ sym (ap (λ (w : WriteDat
 pub returns-in_err-put-clause-memory : goal.returns-in_err-put-clause-memory
 returns-in_err-put-clause-memory c =
     err_here c.from_residual.result
-    (ap (λ (w : WriteData). w.queue.high) (write-stored c.args.stripe.now c.args.queue.now c.args.fit c.args.prior c.args.key.now c.args.value.now c.args.flags c.args.expiration c.args.cas c.args.now c.refusal.result (record { flags = c.args.flags; expiry = c.stored_expiry.result; cas = c.stamp.result; seqno = c.high.result + 1; deleted = false; len = 0 }) c.maxcas.result c.high.result
-    (sym c.is_opened.ensures ∙ c.if-not-is_opened.false) c.refusal.ensures c.in_default.is c.maxcas.ensures.maxcas c.high.ensures.high refl c.stored_expiry.ensures c.stamp.ensures refl refl)
+    (ap (λ (w : WriteData). w.queue.high) (write-stored c.args.stripe.now c.args.queue.now c.args.fit c.args.prior c.args.key.now c.args.value.now c.args.flags c.args.expiration c.args.cas c.args.now c.refusal.result (record { flags = c.args.flags; expiry = c.stored_expiry.result; cas = c.stamp.result; seqno = c.high.result + 1; deleted = false; len = 0 }) c.maxcas.result c.high.result c.uuid-uuid.result
+    (sym c.is_opened.ensures ∙ c.if-not-is_opened.false) c.refusal.ensures c.in_default.is c.maxcas.ensures.maxcas c.high.ensures.high c.uuid-uuid.ensures refl c.stored_expiry.ensures c.stamp.ensures refl refl)
     ∙ ap (λ n. n + 1) c.high.ensures.high)

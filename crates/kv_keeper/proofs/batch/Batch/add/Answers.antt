@@ -1,6 +1,6 @@
 use Rattle.std.proofs.Common.{◌≡◌, List, length, sym, ap, subst, ◌∙◌}
-use Rattle.ep_model.specs.World.{doc_from}
-use Rattle.kv_keeper.specs.Batch.{AreDistinct, Entry, laid, with_row}
+use Rattle.ep_model.specs.World.{doc_from, Item}
+use Rattle.kv_keeper.specs.Batch.{AreDistinct, laid, with_row}
 use Rattle.kv_keeper.specs.Rows.{entries_of}
 use Rattle.kv_keeper.proofs.BatchLemmas.{laid-with_row, length-with_row, distinct-with_row}
 use Rattle.kv_keeper.proofs.RowLemmas.{rows-within, batch-within, batch-distinct, added}
@@ -29,11 +29,11 @@ invariant_of-self-2 c = are-distinct c
 
 pub returns-clause-laid : goal.returns-clause-laid
 returns-clause-laid c =
-    λ docs. ap (λ (rows : List Entry). laid rows docs) (rows-are c) ∙ laid-with_row c.args.self.now.rows c.args.key.now (doc_from c.args.meta c.args.value.now) docs
+    λ docs. ap (λ (rows : List Item). laid rows docs) (rows-are c) ∙ laid-with_row c.args.self.now.rows c.args.key.now (doc_from c.args.meta c.args.value.now) docs
 
 pub returns-clause-count : goal.returns-clause-count
 returns-clause-count c =
-    ap (λ (rows : List Entry). length rows) (rows-are c) ∙ length-with_row c.args.self.now.rows c.args.key.now (doc_from c.args.meta c.args.value.now)
+    ap (λ (rows : List Item). length rows) (rows-are c) ∙ length-with_row c.args.self.now.rows c.args.key.now (doc_from c.args.meta c.args.value.now)
 
 pub returns-clause-distinct : goal.returns-clause-distinct
 returns-clause-distinct c = are-distinct c
