@@ -24,7 +24,7 @@ use Rattle.ep_model.specs.Refusals.{state_refusal}
 use Rattle.ep_model.specs.Answer.{Answer, unless, refused, answer_get, answer_row, answer}
 use Rattle.ep_model.specs.Front.{world_of, with_event, marked}
 use Rattle.ep_model.specs.Legal.{IsUnused, IsBelow, WaitsAt, Caused, IsAway, MayAsk, May, AreLegal, IsLegal}
-use Rattle.hold_stage.specs.Waits.{is_ask}
+use Rattle.hold_stage.specs.Waits.{is_ask, IsNoRead}
 use Rattle.hold_stage.proofs.Callers.{same_is}
 use Rattle.hold_stage.proofs.Views.{or_true_left}
 use Rattle.hold_stage.proofs.Later.{world_step, all_append}
@@ -38,7 +38,7 @@ use Rattle.flat_parts.specs.declared.data.StripeData.{StripeData}
 use Rattle.flat_parts.specs.declared.data.Step.TheVariants as steps
 use Rattle.flat_parts.specs.Nodes.{node_at, outcome_at, is_not_numbered, released}
 use Rattle.flat_parts.specs.Steps.{read_refused, is_full, asked, read_asks, prior_outcome, read_waits, read_value, read_node, read_active, read_step}
-use Rattle.ep_drill.specs.Stands.{ValueStands, IsGone, IsNoRead, OutcomeStands, ticket_of, PlaceStands, StripeStands, PriorStands, PriorsStand}
+use Rattle.ep_drill.specs.Stands.{ValueStands, IsGone, OutcomeStands, ticket_of, PlaceStands, StripeStands, PriorStands, PriorsStand}
 use Rattle.ep_drill.proofs.ReadLemmas.{AfterRead, all_filter, all_map, IsCalm, places_calm, stripe_calm, released_all, after_done, after_warming}
 
 -- a ticket above all that were asked has no failed read

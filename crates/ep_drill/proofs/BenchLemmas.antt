@@ -16,8 +16,9 @@ use Rattle.kv_keeper.specs.declared.data.BatchData.{BatchData}
 use Rattle.kv_keeper.specs.declared.data.DeskData.{DeskData}
 use Rattle.kv_keeper.specs.Content.{Content, KeeperData, empty_content}
 use Rattle.kv_keeper.specs.declared.keeper.StoreState.{StoreState}
-use Rattle.kv_keeper.specs.Desk.{HasFailedRead, new_desk, with_keeper_faults}
+use Rattle.kv_keeper.specs.Desk.{OneReadFailed, new_desk, with_keeper_faults}
 use Rattle.kv_keeper.specs.Kept.{IsDoubtful, all_committed}
+use Rattle.hold_stage.proofs.Later.{same_told}
 use Rattle.hold_stage.proofs.RisesLemmas.{opened_stays, may_of, started_low}
 use Rattle.ep_drill.specs.declared.data.BenchData.{BenchData}
 use Rattle.ep_drill.specs.declared.part.Part.{Part}
@@ -28,13 +29,13 @@ use Rattle.ep_drill.specs.declared.store.Flushed.TheVariants as flushes
 use Rattle.ep_drill.specs.declared.data.FetchedData.{FetchedData}
 use Rattle.ep_drill.specs.declared.data.FoundData.{FoundData}
 use Rattle.ep_drill.specs.declared.data.FoundData.TheVariants as founds
-use Rattle.hold_stage.specs.Went.{noted}
+use Rattle.hold_stage.specs.Went.{with_noted}
 use Rattle.hold_stage.proofs.DeskLemmas.{persisted_same}
-use Rattle.ep_drill.specs.Answers.{IsFlushed, state_for, whole}
+use Rattle.ep_drill.specs.StoreSide.{IsFlushed, state_for, whole}
 use Rattle.ep_drill.specs.Fetches.{Reads, IsMerged}
-use Rattle.ep_drill.specs.Stands.{HoldsIfTold, DeskStands, BatchStands, FetchedStands}
+use Rattle.ep_drill.specs.Stands.{HoldsIfTelling, DeskStands, BatchStands, FetchedStands}
 use Rattle.ep_drill.specs.Core.{BenchStands}
-use Rattle.ep_drill.proofs.StoreLemmas.{desk_keeps_standing, more_faults, desk_tells, batch_keeps, no_fault_same, IsApart, fetched_keeps}
+use Rattle.ep_drill.proofs.StoreLemmas.{tells_whole, tells_on, desk_keeps_standing, more_faults, desk_tells, batch_keeps, no_fault_same, IsApart, fetched_keeps}
 
 -- an event that isn't the desk's tells of no failed read
 apart_same : (found : FoundData) (event : EventData) → is_desks event ≡ false → IsApart found event
@@ -48,13 +49,24 @@ batch_later : (f : FrontData) (event : EventData) (stored : ℕ) (batch : Option
 batch_later f event stored None start same b = tt
 batch_later f event stored (Some batch) start same b = batch_keeps f event stored batch start same b
 
+-- a vBucket has opened, and its start is told
+abbrev IsKnown : FrontData → Type 0
+IsKnown f = ((world_of f).opened ≡ true) × ((world_of f).told ≡ true)
+
+known_of : (f : FrontData) (bench : BenchData) → BenchStands f bench → IsKnown f
+known_of f bench b = (b.opened, b.told)
+
+known_stays : (f : FrontData) (event : EventData) → IsKnown f → IsKnown (with_event f event)
+known_stays f event h = (opened_stays f event h.0, same_told f event ∙ h.1)
+
 -- A desk and a batch change, and each read that is there stands on, where the count of failed reads doesn't fall.
 with_desk : (f g : FrontData) (bench : BenchData) (now : DeskData) (batch : Option BatchData) → BenchStands f bench
-    → g.config.stripes ≡ f.config.stripes → (world_of g).opened ≡ true → DeskStands g now → IsSome now.keeper.content → now.stored ≡ now.noted
+    → g.config.stripes ≡ f.config.stripes → IsKnown g → DeskStands g now → IsSome now.keeper.content → now.stored ≡ now.noted
     → IfSome batch (λ b. BatchStands g now.stored b) → IfSome batch (λ _. now.doubt ≡ None) → ((r : FetchedData) → FetchedStands f r → FetchedStands g r) → bench.desk.read_faults ≤ now.read_faults
     → BenchStands g (record { desk = now; batch = batch; reads = bench.reads })
 with_desk f g bench now batch b config opened desk tells known stands sure keeps more = record {
-  opened = opened;
+  opened = opened.0;
+  told = opened.1;
   desk = desk;
   tells = tells;
   known = known;
@@ -67,34 +79,23 @@ with_desk f g bench now batch b config opened desk tells known stands sure keeps
 }
 
 -- an event that isn't the desk's is noted, or none is
-pub bench_noted : (f : FrontData) (event : Option EventData) (bench : BenchData) → IsLegal f → IsLegal (noted f event) → IfSome event (λ e. is_desks e ≡ false) → BenchStands f bench → BenchStands (noted f event) bench
+pub bench_noted : (f : FrontData) (event : Option EventData) (bench : BenchData) → IsLegal f → IsLegal (with_noted f event) → IfSome event (λ e. is_desks e ≡ false) → BenchStands f bench → BenchStands (with_noted f event) bench
 bench_noted f None bench legal then test b = b
 bench_noted f (Some event) bench legal then test b =
     let start = started_low f legal in
     let low = b.desk.low in
     let may = may_of f event then in
-    with_desk f (with_event f event) bench bench.desk bench.batch b refl (opened_stays f event b.opened)
+    with_desk f (with_event f event) bench bench.desk bench.batch b refl (known_stays f event (known_of f bench b))
     (desk_keeps_standing f event bench.desk legal test b.desk) b.tells b.known
     (batch_later f event bench.desk.stored bench.batch (omega arith) (persisted_same (world_of f) event test) b.batch) b.sure (λ r s. fetched_keeps f event r may (apart_same r.found event test) s) (omega arith)
 
 -- a batch is taken, where no commit failed
 pub bench_taken : (f : FrontData) (bench : BenchData) (batch : Option BatchData) → BenchStands f bench → bench.desk.doubt ≡ None → IfSome batch (λ b. BatchStands f bench.desk.stored b) → BenchStands f (record bench { batch = batch })
-bench_taken f bench batch b sure stands = with_desk f f bench bench.desk batch b refl b.opened b.desk b.tells b.known stands (at batch) (λ r s. s) (omega arith)
+bench_taken f bench batch b sure stands = with_desk f f bench bench.desk batch b refl (b.opened, b.told) b.desk b.tells b.known stands (at batch) (λ r s. s) (omega arith)
   where
     at : (batch : Option BatchData) → IfSome batch (λ _. bench.desk.doubt ≡ None)
     at None = tt
     at (Some x) = sure
-
--- a store that tells goes on telling through a commit
-tells_whole : (content : Option Content) (batch : BatchData) (state : StoreState) → IsSome content → IsSome (all_committed content batch state)
-tells_whole None batch state h = absurd (cc)
-tells_whole (Some content) batch state h = refl
-
-tells_on : (old now : KeeperData) (batch : BatchData) → IsSome old.content → IsDoubtful old (whole old batch) now → IsSome now.content
-tells_on old now batch h doubtful = elim doubtful.which [
-  | inl x ↦ subst (λ (o : Option Content). IsSome o) (sym x.0) h
-  | inr y ↦ subst (λ (o : Option Content). IsSome o) (sym y.0) (tells_whole old.content batch (state_for batch) h)
-]
 
 -- a read stands on behind an event that isn't about it
 fetched_moves : (f g : FrontData) (event : EventData) (r : FetchedData) → g ≡ with_event f event → IsLegal g → IsApart r.found event → FetchedStands f r → FetchedStands g r
@@ -107,8 +108,8 @@ apart_persisted founds.Absent number = tt
 apart_persisted (founds.Failed fault) number = tt
 apart_persisted founds.NoMemory number = tt
 
-opened_moves : (f g : FrontData) (event : EventData) → g ≡ with_event f event → (world_of f).opened ≡ true → (world_of g).opened ≡ true
-opened_moves f g event is h = ap (λ (x : FrontData). (world_of x).opened) is ∙ opened_stays f event h
+known_moves : (f g : FrontData) (event : EventData) → g ≡ with_event f event → IsKnown f → IsKnown g
+known_moves f g event is h = subst IsKnown (sym is) (known_stays f event h)
 
 -- A batch is committed, or that fails, or memory was wanting: it isn't there any more.
 pub bench_committed : (f g : FrontData) (bench : BenchData) (now : DeskData) (batch : BatchData) (flushed : Flushed) → IsLegal f → IsLegal g → BenchStands f bench
@@ -117,20 +118,20 @@ bench_committed f g bench now batch (flushes.Stored number) legal then b is =
     let e : now.read_faults ≡ bench.desk.read_faults = ap (λ (d : DeskData). d.read_faults) is.3 in
     let stored : now.stored ≡ batch.to = ap (λ (d : DeskData). d.stored) is.3 in
     let noted : now.noted ≡ batch.to = ap (λ (d : DeskData). d.noted) is.3 in
-    with_desk f g bench now None b (ap (λ (h : FrontData). h.config.stripes) is.1) (opened_moves f g (events.Persisted batch.to) is.1 b.opened) is.2
+    with_desk f g bench now None b (ap (λ (h : FrontData). h.config.stripes) is.1) (known_moves f g (events.Persisted batch.to) is.1 (known_of f bench b)) is.2
     (subst (λ (d : DeskData). IsSome d.keeper.content) (sym is.3) (tells_whole bench.desk.keeper.content batch (state_for batch) b.tells)) (stored ∙ sym noted) tt tt
     (λ r s. fetched_moves f g (events.Persisted batch.to) r is.1 then (apart_persisted r.found batch.to) s) (omega arith)
 bench_committed f g bench now batch flushes.Failed legal then b is =
     let e : now.read_faults ≡ bench.desk.read_faults = ap (λ (d : DeskData). d.read_faults) is.2 in
     let stored : now.stored ≡ bench.desk.stored = ap (λ (d : DeskData). d.stored) is.2 in
     let noted : now.noted ≡ bench.desk.noted = ap (λ (d : DeskData). d.noted) is.2 in
-    with_desk f g bench now None b (ap (λ (h : FrontData). h.config.stripes) is.0) (ap (λ (h : FrontData). (world_of h).opened) is.0 ∙ b.opened) is.1
+    with_desk f g bench now None b (ap (λ (h : FrontData). h.config.stripes) is.0) (subst IsKnown (sym is.0) (known_of f bench b)) is.1
     (tells_on bench.desk.keeper now.keeper batch b.tells is.3) (stored ∙ b.known ∙ sym noted) tt tt
     (λ r s. subst (λ (h : FrontData). FetchedStands h r) (sym is.0) s) (omega arith)
 bench_committed f g bench now batch flushes.NoMemory legal then b is =
     subst (λ (h : FrontData). BenchStands h (record { desk = now; batch = None; reads = bench.reads })) (sym is.0)
     (subst (λ (d : DeskData). BenchStands f (record { desk = d; batch = None; reads = bench.reads })) (sym is.1)
-    (with_desk f f bench bench.desk None b refl b.opened b.desk b.tells b.known tt tt (λ r s. s) (omega arith)))
+    (with_desk f f bench bench.desk None b refl (b.opened, b.told) b.desk b.tells b.known tt tt (λ r s. s) (omega arith)))
 
 -- what a read leaves of the desk
 pub record IsAsked (old now : DeskData) : Type 0 where
@@ -162,7 +163,7 @@ bench_asked f bench now b asked =
     let after : DeskData = record (with_keeper_faults bench.desk now.keeper.faults) { read_faults = now.read_faults } in
     let more = asked.faults in
     subst (λ (d : DeskData). BenchStands f (record { desk = d; batch = bench.batch; reads = bench.reads })) (sym asked.left)
-    (with_desk f f bench after bench.batch b refl b.opened (more_faults f bench.desk now.keeper.faults now.read_faults more b.desk) b.tells b.known b.batch b.sure (λ r s. s) more)
+    (with_desk f f bench after bench.batch b refl (b.opened, b.told) (more_faults f bench.desk now.keeper.faults now.read_faults more b.desk) b.tells b.known b.batch b.sure (λ r s. s) more)
 
 -- a read that stands behind another one's place was there before, or is the other
 replaced : (reads : List (Option FetchedData)) (stripe i : ℕ) (q r : FetchedData) → slice_get (slice_set reads stripe (Some q)) i ≡ Some (Some r) → ((i ≡ stripe) × (r ≡ q)) ⊎ (slice_get reads i ≡ Some (Some r))
@@ -183,7 +184,7 @@ left_over (x ∷ reads) (suc stripe) (suc i) r is = let h = left_over reads stri
 -- a failed read that was just made has a number above the old count, and the new count is as high
 counted : (old now : DeskData) (fault : ℕ) (found : FoundData) → Reads old now found → found ≡ founds.Failed fault → (old.read_faults < fault) × (fault ≤ now.read_faults)
 counted old now fault found is failed =
-    let c : (fault ≡ old.read_faults + 1) × HasFailedRead old now = subst (λ (o : FoundData). Reads old now o) failed is in
+    let c : (fault ≡ old.read_faults + 1) × OneReadFailed old now = subst (λ (o : FoundData). Reads old now o) failed is in
     let n = c.0 in
     let e : now.read_faults ≡ old.read_faults + 1 = ap (λ (d : DeskData). d.read_faults) c.1.left in
     ((let low : old.read_faults < fault = omega arith in low), (let top : fault ≤ now.read_faults = omega arith in top))
@@ -197,6 +198,7 @@ bench_read f bench now stripe fetched b there stands here read =
     let more = by.faults in
     record {
       opened = asked.opened;
+      told = asked.told;
       desk = asked.desk;
       tells = asked.tells;
       known = asked.known;
@@ -227,12 +229,13 @@ bench_read f bench now stripe fetched b there stands here read =
     new r fault same found = counted bench.desk now fault fetched.found read (ap (λ (q : FetchedData). q.found) (sym same) ∙ found)
 
 -- a stripe's read goes, and the others stand on
-cleared : (f g : FrontData) (bench : BenchData) (stripe : ℕ) → BenchStands f bench → g.config.stripes ≡ f.config.stripes → (world_of g).opened ≡ true
+cleared : (f g : FrontData) (bench : BenchData) (stripe : ℕ) → BenchStands f bench → g.config.stripes ≡ f.config.stripes → IsKnown g
     → DeskStands g bench.desk → IfSome bench.batch (λ b. BatchStands g bench.desk.stored b)
     → ((i : ℕ) (r : FetchedData) → i ≢ stripe → slice_get bench.reads i ≡ Some (Some r) → FetchedStands f r → FetchedStands g r)
     → BenchStands g (record bench { reads = slice_set bench.reads stripe None })
 cleared f g bench stripe b config opened desk batch keeps = record {
-  opened = opened;
+  opened = opened.0;
+  told = opened.1;
   desk = desk;
   tells = b.tells;
   known = b.known;
@@ -247,7 +250,7 @@ cleared f g bench stripe b config opened desk batch keeps = record {
 -- where no event is noted
 cleared_same : (f g : FrontData) (bench : BenchData) (stripe : ℕ) → BenchStands f bench → g ≡ f → BenchStands g (record bench { reads = slice_set bench.reads stripe None })
 cleared_same f g bench stripe b is =
-    subst (λ (h : FrontData). BenchStands h (record bench { reads = slice_set bench.reads stripe None })) (sym is) (cleared f f bench stripe b refl b.opened b.desk b.batch (λ i r differ at s. s))
+    subst (λ (h : FrontData). BenchStands h (record bench { reads = slice_set bench.reads stripe None })) (sym is) (cleared f f bench stripe b refl (b.opened, b.told) b.desk b.batch (λ i r differ at s. s))
 
 -- a failed read with another number isn't told of
 apart_failed : (found : FoundData) (ticket : Ticket) (fault : ℕ) → ((other : ℕ) → found ≡ founds.Failed other → fault ≢ other) → IsApart found (events.ReadFailed ticket fault)
@@ -262,7 +265,7 @@ cleared_failed f bench stripe fault fetched legal then b at failed =
     let event = events.ReadFailed fetched.ticket fault in
     let some = b.faults stripe fetched fault at failed in
     let start = started_low f legal in let low = b.desk.low in
-    cleared f (with_event f event) bench stripe b refl (opened_stays f event b.opened)
+    cleared f (with_event f event) bench stripe b refl (known_stays f event (known_of f bench b))
     (desk_tells f fetched.ticket fault bench.desk legal some.0 some.1 b.desk)
     (batch_later f event bench.desk.stored bench.batch (omega arith) refl b.batch)
     (λ i r differ to s. fetched_keeps f event r (may_of f event then)
@@ -279,23 +282,24 @@ bench_merged f g bench stripe fetched part left mergings.Failed legal then b at 
     (cleared_failed f bench stripe is.0 fetched legal (subst IsLegal is.2 then) b at is.1)
 bench_merged f g bench stripe fetched part left mergings.NoMemory legal then b at is = cleared_same f g bench stripe b is.0
 
-empty_holds : (config : Config) (id : ℕ) (content : Option Content) → content ≡ Some empty_content → HoldsIfTold (record { config = config; id = id; start = Some empty_start; events = events.Opened ∷ [] }) content 0
+empty_holds : (config : Config) (id : ℕ) (content : Option Content) → content ≡ Some empty_content → HoldsIfTelling (record { config = config; id = id; start = Some empty_start; events = events.Opened ∷ [] }) content 0
 empty_holds config id None is = tt
 empty_holds config id (Some content) is =
     let same : content ≡ empty_content = cc in
-    record { docs = ap (λ (c : Content). c.docs) same; version = ap (λ (c : Content). c.version) same; high = ap (λ (c : Content). c.high) same; maxcas = ap (λ (c : Content). c.maxcas) same }
+    record { docs = λ told. ap (λ (c : Content). c.docs) same; version = ap (λ (c : Content). c.version) same; high = ap (λ (c : Content). c.high) same; maxcas = ap (λ (c : Content). c.maxcas) same }
 
 new_stands : (config : Config) (id : ℕ) (keeper : KeeperData) (reads : List (Option FetchedData)) → keeper.content ≡ Some empty_content → length reads ≡ config.stripes → ((stripe : ℕ) (r : FetchedData) → slice_get reads stripe ≡ Some (Some r) → ⊥)
     → BenchStands (record { config = config; id = id; start = Some empty_start; events = events.Opened ∷ [] }) (record { desk = new_desk keeper; batch = None; reads = reads })
 new_stands config id keeper reads holds count none = record {
   opened = refl;
+  told = refl;
   desk = record {
     low = omega arith;
     top = omega arith;
     holds = empty_holds config id keeper.content holds;
     persisted = refl;
-    told = (tt, tt);
-    is_told = refl;
+    faults = (tt, tt);
+    tells = λ told. subst (λ (o : Option Content). IsSome o) (sym holds) refl;
   };
   tells = subst (λ (o : Option Content). IsSome o) (sym holds) refl;
   known = refl;

@@ -22,7 +22,7 @@ use Rattle.ep_drill.specs.declared.fetched.Fetched.{Fetched}
 use Rattle.ep_drill.specs.declared.data.FetchedData.{FetchedData}
 use Rattle.ep_drill.specs.declared.part.Part.{Part}
 use Rattle.ep_drill.specs.declared.store.Flushed.{Flushed}
-use Rattle.ep_drill.specs.Answers.{IsTaken, IsFlushed}
+use Rattle.ep_drill.specs.StoreSide.{IsTaken, IsFlushed}
 use Rattle.ep_drill.specs.Calls.{AreHome, KeptBut}
 use Rattle.ep_drill.specs.Fetches.{fetched_data, IsMerged, IsRead, ReadsOldest}
 use Rattle.ep_drill.specs.Core.{BenchStands, Ready, Moved, Rested, count_of}

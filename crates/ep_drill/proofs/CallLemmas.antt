@@ -25,12 +25,12 @@ use Rattle.flat_parts.specs.declared.data.Step.TheVariants as steps
 use Rattle.flat_parts.specs.Steps.{read_step, write_step}
 use Rattle.hold_stage.proofs.OwnLemmas.{holds_stripe}
 use Rattle.ep_drill.specs.Stands.{ticket_of, StripeStands, QueueStands, PriorsStand}
-use Rattle.hold_stage.specs.Went.{noted}
+use Rattle.hold_stage.specs.Went.{with_noted}
 use Rattle.ep_drill.specs.Calls.{is_prior, event_of}
 use Rattle.ep_drill.proofs.ReadLemmas.{AfterStep}
 use Rattle.ep_drill.proofs.AskLemmas.{read_stands}
 use Rattle.ep_drill.proofs.SetLemmas.{AfterWrite, write_stands}
-use Rattle.ep_drill.proofs.WaitLemmas.{and_left, and_right}
+use Rattle.hold_stage.proofs.WaitLemmas.{and_left, and_right}
 
 pub prior_is : (prior : Option Ticket) (ticket : Ticket) → is_prior prior ticket ≡ true → prior ≡ Some ticket
 prior_is None ticket is = absurd (cc)
@@ -52,7 +52,7 @@ module _ (f : FrontData) (stripe caller now : ℕ) (key : List ℕ) (prior : Opt
 
   abbrev Notes : List ℕ → Step → StripeData → Type 0
   Notes value step y =
-      (IfSome (event_of caller call now prior value step) (May f)) × (IfSome (event_of caller call now prior value step) (Covered holds f)) × StripeStands (noted f (event_of caller call now prior value step)) stripe y
+      (IfSome (event_of caller call now prior value step) (May f)) × (IfSome (event_of caller call now prior value step) (Covered holds f)) × StripeStands (with_noted f (event_of caller call now prior value step)) stripe y
 
   covers_get : (p : PartName) → touches_call f.config call p ≡ true → holds p ≡ true
   covers_get p is = holds_stripe holds stripe has p (subst (λ n. is_stripe n p ≡ true) (sym here) is)
@@ -63,7 +63,7 @@ module _ (f : FrontData) (stripe caller now : ℕ) (key : List ℕ) (prior : Opt
   notes_step value (steps.Refused cause) y h = (h.0, covers_get, h.1)
   notes_step value (steps.Fetch ticket) y h =
       elim (is_prior prior ticket) as (λ b. is_prior prior ticket ≡ b →
-      (IfSome (cond b None (Some (events.Asked ticket caller call))) (May f)) × (IfSome (cond b None (Some (events.Asked ticket caller call))) (Covered holds f)) × StripeStands (noted f (cond b None (Some (events.Asked ticket caller call)))) stripe y) [
+      (IfSome (cond b None (Some (events.Asked ticket caller call))) (May f)) × (IfSome (cond b None (Some (events.Asked ticket caller call))) (Covered holds f)) × StripeStands (with_noted f (cond b None (Some (events.Asked ticket caller call)))) stripe y) [
         | true ↦ λ t. (tt, tt, h.0 (prior_is prior ticket t))
         | false ↦ λ t.
             let m = h.1 (not_prior prior ticket t) in
@@ -86,7 +86,7 @@ module _ (f : FrontData) (stripe caller now : ℕ) (key : List ℕ) (prior : Opt
 pub get_at : (f₀ f : FrontData) (n₀ n stripe now stripes : ℕ) (key : List ℕ) (prior : Option Ticket) (held holds : PartName → Bool) (x y : StripeData) (before value : List ℕ) (step : Step)
     → f ≡ f₀ → n ≡ n₀ → stripe ≡ stripe_of key stripes → stripes ≡ f₀.config.stripes → Same holds (and_this (Stripe stripe) held) → IsLegal f → f₀.config.eviction ≡ Value → PriorsStand f₀ n₀ (calls.Get key) prior → StripeStands f stripe x
     → step ≡ (read_step x prior key now).step → y ≡ (read_step x prior key now).stripe → value ≡ before ++ (read_step x prior key now).value → before ≡ []
-    → (IfSome (event_of n (calls.Get key) now prior value step) (May f)) × (IfSome (event_of n (calls.Get key) now prior value step) (Covered holds f)) × StripeStands (noted f (event_of n (calls.Get key) now prior value step)) stripe y
+    → (IfSome (event_of n (calls.Get key) now prior value step) (May f)) × (IfSome (event_of n (calls.Get key) now prior value step) (Covered holds f)) × StripeStands (with_noted f (event_of n (calls.Get key) now prior value step)) stripe y
 get_at f₀ f n₀ n stripe now stripes key prior held holds x y before value step front number stripe-is stripes-is same legal eviction priors s step-is y-is value-is none =
     get_notes f stripe n now key prior holds (stripe-is ∙ ap (stripe_of key) (stripes-is ∙ ap (λ (g : FrontData). g.config.stripes) (sym front)))
     (same (Stripe stripe) ∙ ap (λ b. b || held (Stripe stripe)) (same_is stripe)) x y value step legal (ap (λ (g : FrontData). g.config.eviction) front ∙ eviction)
@@ -104,7 +104,7 @@ module _ (f : FrontData) (stripe caller now : ℕ) (key value : List ℕ) (flags
 
   abbrev SetNotes : Step → StripeData → QueueData → Type 0
   SetNotes step y z =
-      (IfSome (event_of caller set now prior [] step) (May f)) × (IfSome (event_of caller set now prior [] step) (Covered holds f)) × StripeStands (noted f (event_of caller set now prior [] step)) stripe y × QueueStands (noted f (event_of caller set now prior [] step)) z
+      (IfSome (event_of caller set now prior [] step) (May f)) × (IfSome (event_of caller set now prior [] step) (Covered holds f)) × StripeStands (with_noted f (event_of caller set now prior [] step)) stripe y × QueueStands (with_noted f (event_of caller set now prior [] step)) z
 
   covers_set : (p : PartName) → touches_call f.config set p ≡ true → holds p ≡ true
   covers_set (Stripe other) is = holds_stripe holds stripe has (Stripe other) (subst (λ n. (other == n) ≡ true) (sym here) (or_false (other == stripe_of key f.config.stripes) is))
@@ -124,7 +124,7 @@ pub set_at : (f₀ f₁ f : FrontData) (n₀ n₁ n stripe now : ℕ) (config : 
     → StripeStands f₁ stripe x → QueueStands f q
     → step ≡ (write_step x q fit prior key value flags expiration cas now).step → y ≡ (write_step x q fit prior key value flags expiration cas now).stripe → z ≡ (write_step x q fit prior key value flags expiration cas now).queue
     → (IfSome (event_of n (calls.Store Set key value flags expiration cas) now prior [] step) (May f)) × (IfSome (event_of n (calls.Store Set key value flags expiration cas) now prior [] step) (Covered holds f))
-    × StripeStands (noted f (event_of n (calls.Store Set key value flags expiration cas) now prior [] step)) stripe y × QueueStands (noted f (event_of n (calls.Store Set key value flags expiration cas) now prior [] step)) z
+    × StripeStands (with_noted f (event_of n (calls.Store Set key value flags expiration cas) now prior [] step)) stripe y × QueueStands (with_noted f (event_of n (calls.Store Set key value flags expiration cas) now prior [] step)) z
 set_at f₀ f₁ f n₀ n₁ n stripe now config key value flags expiration cas fit prior held₀ held₁ holds x y q z step front₁ front number₁ number stripe-is config-is fit-is same₁ same legal s t step-is y-is z-is =
     let r = write_step x q fit prior key value flags expiration cas now in
     let c : f.config ≡ config = ap (λ (g : FrontData). g.config) (front ∙ front₁) ∙ sym config-is in

@@ -18,7 +18,7 @@ use Rattle.ep_drill.specs.declared.data.CallerData.{CallerData}
 use Rattle.flat_parts.specs.declared.data.Step.{Step}
 use Rattle.flat_parts.specs.declared.data.Step.TheVariants as steps
 use Rattle.ep_drill.specs.Stands.{PriorStands, PriorsStand}
-use Rattle.hold_stage.specs.Went.{noted}
+use Rattle.hold_stage.specs.Went.{with_noted}
 use Rattle.ep_drill.specs.Calls.{is_prior, event_of}
 use Rattle.ep_drill.specs.Callers.{answered_by, answered_in, calls_on, next_of, NextStands, CallerStands, after_step}
 use Rattle.ep_drill.proofs.CallLemmas.{prior_is}
@@ -91,7 +91,7 @@ calls_more u vb n calls call is =
     ap (λ (k : ℕ). calls_on u (take k calls)) (add-one n) ∙ ap (λ (l : List (ℕ × CallData)). calls_on u l) (take_next calls n (vb, call) is) ∙ calls_on-append u (take n calls) ((vb, call) ∷ [])
 
 -- an event that answers none of the caller's calls leaves what the caller asked
-priors_noted : (f : FrontData) (number : ℕ) (call : CallData) (event : Option EventData) (prior : Option Ticket) → IfSome event (λ e. answered_by number e ≡ []) → PriorsStand f number call prior → PriorsStand (noted f event) number call prior
+priors_noted : (f : FrontData) (number : ℕ) (call : CallData) (event : Option EventData) (prior : Option Ticket) → IfSome event (λ e. answered_by number e ≡ []) → PriorsStand f number call prior → PriorsStand (with_noted f event) number call prior
 priors_noted f number call event None none stands = tt
 priors_noted f number call None (Some ticket) none stands = stands
 priors_noted f number call (Some event) (Some ticket) none stands =
@@ -102,7 +102,7 @@ priors_noted f number call (Some event) (Some ticket) none stands =
       silent = all-push (IsSilent number) stands.later event stands.silent (silent_event number event none);
     }
 
-answered_noted : (f : FrontData) (number : ℕ) (event : Option EventData) → IfSome event (λ e. answered_by number e ≡ []) → answered_in number (noted f event).events ≡ answered_in number f.events
+answered_noted : (f : FrontData) (number : ℕ) (event : Option EventData) → IfSome event (λ e. answered_by number e ≡ []) → answered_in number (with_noted f event).events ≡ answered_in number f.events
 answered_noted f number None none = refl
 answered_noted f number (Some event) none =
     answered_in-push number f.events event ∙ ap (λ (l : List CallData). answered_in number f.events ++ l) none ∙ append-nil (answered_in number f.events)
@@ -113,11 +113,11 @@ idle fronts number prior None none = none
 idle fronts number prior (Some next) none = subst (λ (p : Option Ticket). PriorsStand (fronts next.0) number next.1 p) (sym none) tt
 
 -- Histories of which one got an event more, or none.
-module _ (fronts fresh : ℕ → FrontData) (vb number : ℕ) (event : Option EventData) (here : fresh vb ≡ noted (fronts vb) event) (others : (u : ℕ) → u ≢ vb → fresh u ≡ fronts u) where
-  at_each : (Q : FrontData → Type 0) (u : ℕ) → (u ≡ vb → Q (noted (fronts u) event)) → (u ≢ vb → Q (fronts u)) → Q (fresh u)
+module _ (fronts fresh : ℕ → FrontData) (vb number : ℕ) (event : Option EventData) (here : fresh vb ≡ with_noted (fronts vb) event) (others : (u : ℕ) → u ≢ vb → fresh u ≡ fronts u) where
+  at_each : (Q : FrontData → Type 0) (u : ℕ) → (u ≡ vb → Q (with_noted (fronts u) event)) → (u ≢ vb → Q (fronts u)) → Q (fresh u)
   at_each Q u new old =
       elim (cases_eq u vb) as (λ _. Q (fresh u)) [
-        | inl is ↦ subst Q (sym (subst (λ (k : ℕ). fresh k ≡ noted (fronts k) event) (sym is) here)) (new is)
+        | inl is ↦ subst Q (sym (subst (λ (k : ℕ). fresh k ≡ with_noted (fronts k) event) (sym is) here)) (new is)
         | inr differ ↦ subst Q (sym (others u differ)) (old differ)
       ]
 
@@ -131,7 +131,7 @@ module _ (fronts fresh : ℕ → FrontData) (vb number : ℕ) (event : Option Ev
       at_each (λ (g : FrontData). answered_in number g.events ≡ calls) u (λ is. answered_noted (fronts u) number event none ∙ done) (λ differ. done)
 
 -- an event that answers none of the caller's calls
-pub caller_keeps : (fronts fresh : ℕ → FrontData) (vb number : ℕ) (event : Option EventData) (caller : CallerData) → fresh vb ≡ noted (fronts vb) event → ((u : ℕ) → u ≢ vb → fresh u ≡ fronts u)
+pub caller_keeps : (fronts fresh : ℕ → FrontData) (vb number : ℕ) (event : Option EventData) (caller : CallerData) → fresh vb ≡ with_noted (fronts vb) event → ((u : ℕ) → u ≢ vb → fresh u ≡ fronts u)
     → IfSome event (λ e. answered_by number e ≡ []) → CallerStands fronts number caller → CallerStands fresh number caller
 caller_keeps fronts fresh vb number event caller here others none stands =
     record {
@@ -142,12 +142,12 @@ caller_keeps fronts fresh vb number event caller here others none stands =
 
 -- the event that answers the caller's next call
 caller_answered : (fronts fresh : ℕ → FrontData) (vb number : ℕ) (event : EventData) (call : CallData) (caller : CallerData) → next_of caller ≡ Some (vb, call)
-    → fresh vb ≡ noted (fronts vb) (Some event) → ((u : ℕ) → u ≢ vb → fresh u ≡ fronts u) → answered_by number event ≡ call ∷ []
+    → fresh vb ≡ with_noted (fronts vb) (Some event) → ((u : ℕ) → u ≢ vb → fresh u ≡ fronts u) → answered_by number event ≡ call ∷ []
     → CallerStands fronts number caller → CallerStands fresh number (record caller { answered = caller.answered + 1; prior = None })
 caller_answered fronts fresh vb number event call caller next here others answers stands =
     let answered : (u : ℕ) → List CallData = λ u. calls_on u (take caller.answered caller.calls) in
     let more : (u : ℕ) → calls_on u (take (caller.answered + 1) caller.calls) ≡ answered u ++ (if vb == u then call ∷ [] else []) = λ u. calls_more u vb caller.answered caller.calls call next in
-    let new : (u : ℕ) → u ≡ vb → answered_in number (noted (fronts u) (Some event)).events ≡ calls_on u (take (caller.answered + 1) caller.calls) = λ u is.
+    let new : (u : ℕ) → u ≡ vb → answered_in number (with_noted (fronts u) (Some event)).events ≡ calls_on u (take (caller.answered + 1) caller.calls) = λ u is.
     answered_in-push number (fronts u).events event
     ∙ ap (λ (l : List CallData). answered_in number (fronts u).events ++ l) answers
     ∙ ap (λ (l : List CallData). l ++ call ∷ []) (stands.done u)
@@ -167,7 +167,7 @@ own_answered number call = ap (λ (b : Bool). if b then call ∷ [] else []) (sa
 
 -- what the caller's next call came to
 pub caller_steps : (fronts fresh : ℕ → FrontData) (number now vb : ℕ) (call : CallData) (value : List ℕ) (step : Step) (caller : CallerData) → next_of caller ≡ Some (vb, call)
-    → fresh vb ≡ noted (fronts vb) (event_of number call now caller.prior value step) → ((u : ℕ) → u ≢ vb → fresh u ≡ fronts u)
+    → fresh vb ≡ with_noted (fronts vb) (event_of number call now caller.prior value step) → ((u : ℕ) → u ≢ vb → fresh u ≡ fronts u)
     → CallerStands fronts number caller → CallerStands fresh number (after_step step caller)
 caller_steps fronts fresh number now vb call value (steps.Done reply) caller next here others stands =
     caller_answered fronts fresh vb number (events.Called number call now reply value) call caller next here others (own_answered number call) stands
@@ -175,7 +175,7 @@ caller_steps fronts fresh number now vb call value (steps.Refused cause) caller 
     caller_answered fronts fresh vb number (events.Refused number call now cause) call caller next here others (own_answered number call) stands
 caller_steps fronts fresh number now vb call value (steps.Fetch ticket) caller next here others stands =
     let asked : EventData = events.Asked ticket number call in
-    elim (is_prior caller.prior ticket) as (λ b. is_prior caller.prior ticket ≡ b → fresh vb ≡ noted (fronts vb) (cond b None (Some asked)) → CallerStands fresh number (record caller { prior = Some ticket })) [
+    elim (is_prior caller.prior ticket) as (λ b. is_prior caller.prior ticket ≡ b → fresh vb ≡ with_noted (fronts vb) (cond b None (Some asked)) → CallerStands fresh number (record caller { prior = Some ticket })) [
       -- it waits on where it asked before
       | true ↦ λ is stays.
           let kept : CallerStands fresh number caller = caller_keeps fronts fresh vb number None caller stays others tt stands in

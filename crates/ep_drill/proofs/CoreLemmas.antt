@@ -31,7 +31,7 @@ use Rattle.ep_drill.specs.declared.data.FetchedData.{FetchedData}
 use Rattle.flat_parts.specs.declared.data.Step.{Step}
 use Rattle.flat_parts.specs.declared.data.Step.TheVariants as steps
 use Rattle.ep_drill.specs.Parts.{part_stands}
-use Rattle.hold_stage.specs.Went.{noted}
+use Rattle.hold_stage.specs.Went.{with_noted}
 use Rattle.ep_drill.specs.Calls.{is_prior, event_of}
 use Rattle.ep_drill.specs.Stands.{PriorsStand}
 use Rattle.ep_drill.specs.Callers.{answered_by, answered_in, next_of, NextStands, CallerStands, after_step}
@@ -78,7 +78,7 @@ module _ (core : CoreData) (world : WorldData Part) (vb : ℕ) (event : Option E
   bench_moved test u bench at =
       elim (cases_eq u vb) as (λ _. BenchStands (front_in world u) bench) [
         | inl is ↦
-            let here : front_in world u ≡ noted (front_in core.world u) event = subst (λ (k : ℕ). front_in world k ≡ noted (front_in core.world k) event) (sym is) moved.front in
+            let here : front_in world u ≡ with_noted (front_in core.world u) event = subst (λ (k : ℕ). front_in world k ≡ with_noted (front_in core.world k) event) (sym is) moved.front in
             subst (λ (f : FrontData). BenchStands f bench) (sym here)
             (bench_noted (front_in core.world u) event bench (i.sound.legal u) (subst (λ (f : FrontData). IsLegal f) here (sound.legal u)) test (i.benches u bench at))
         | inr differ ↦ subst (λ (f : FrontData). BenchStands f bench) (sym (moved.others u differ)) (i.benches u bench at)

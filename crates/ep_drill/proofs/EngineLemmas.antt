@@ -17,7 +17,7 @@ use Rattle.ep_drill.specs.declared.owned.Caller.{Caller}
 use Rattle.ep_drill.specs.declared.data.BenchData.{BenchData}
 use Rattle.ep_drill.specs.declared.data.CoreData.{CoreData}
 use Rattle.ep_drill.specs.Parts.{part_stands}
-use Rattle.hold_stage.specs.Went.{noted}
+use Rattle.hold_stage.specs.Went.{with_noted}
 use Rattle.ep_drill.specs.Core.{bench_data, core_data, BenchStands, Moved, Worked, Interleaves, Continues, GoesOn}
 use Rattle.ep_drill.proofs.Lists.{set_same}
 use Rattle.ep_drill.proofs.WorkedLemmas.{worked_by}
@@ -32,7 +32,7 @@ pub lent_from : {A : Type 0} (xs ys : List A) (i : ℕ) (x : A) → ys ≡ xs �
 lent_from xs ys i x same within is = ap (λ l. slice_get l i) (sym same) ∙ lent_at ys i x within is
 
 -- a history with an event more, or with none, is the same one continued
-continued : (f : FrontData) (event : Option EventData) → Continues f (noted f event)
+continued : (f : FrontData) (event : Option EventData) → Continues f (with_noted f event)
 continued f None = record { more = []; start = refl; events = sym (append-nil f.events) }
 continued f (Some event) = record { more = event ∷ []; start = refl; events = refl }
 
@@ -41,7 +41,7 @@ pub moved_continues : (config : Config) (vb : ℕ) (event : Option EventData) (w
 moved_continues config vb event w z moved u =
     elim (cases_eq u vb) as (λ _. Continues (front_in w u) (front_in z u)) [
       | inl is ↦
-          let here : front_in z u ≡ noted (front_in w u) event = subst (λ (k : ℕ). front_in z k ≡ noted (front_in w k) event) (sym is) moved.front in
+          let here : front_in z u ≡ with_noted (front_in w u) event = subst (λ (k : ℕ). front_in z k ≡ with_noted (front_in w k) event) (sym is) moved.front in
           subst (λ (f : FrontData). Continues (front_in w u) f) (sym here) (continued (front_in w u) event)
       | inr differ ↦ subst (λ (f : FrontData). Continues (front_in w u) f) (sym (moved.others u differ)) (continued (front_in w u) None)
     ]

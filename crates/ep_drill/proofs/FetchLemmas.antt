@@ -40,7 +40,7 @@ use Rattle.ep_drill.specs.Stands.{IsGone, OutcomeStands, ticket_of, PlaceStands,
 use Rattle.ep_drill.specs.Parts.{Becomes}
 use Rattle.ep_drill.specs.Fetches.{settles, put_back_value, put_back_node, put_back_found, IsOldest, IsFoundIn, Reads, IsBack, HasPlace, HasOutcome, HasValue}
 use Rattle.ep_drill.proofs.AskLemmas.{place_at, ticket_is}
-use Rattle.ep_drill.proofs.WaitLemmas.{waiting_low}
+use Rattle.hold_stage.proofs.WaitLemmas.{waiting_low}
 use Rattle.ep_drill.proofs.StoreLemmas.{waiting_stored, fetched_key, fetched_any, fetched_row}
 use Rattle.ep_drill.proofs.PartLemmas.{settled_stands, may_fail, failed_stands, restored_stands}
 use Rattle.ep_drill.proofs.SetLemmas.{node_at_put}
@@ -83,34 +83,44 @@ fresh_faults : (faults fault : ℕ) (list : List EventData) → faults < fault �
 fresh_faults faults fault [] more h = tt
 fresh_faults faults fault (event ∷ list) more h = (fresh_fault faults fault event more h.0, fresh_faults faults fault list more h.1)
 
--- what was found at a sure desk, whose store tells what it holds, stands for whoever waits at a ticket
-found_stands : (f : FrontData) (ticket : Ticket) (key : List ℕ) (desk now : DeskData) (content : Content) (found : FoundData) → IsLegal f → f.config.eviction ≡ Value → desk.doubt ≡ None → desk.keeper.content ≡ Some content → DeskStands f desk
-    → is_waiting f ticket key ≡ true → IsFoundIn content key found → Reads desk now found → FetchedStands f (fetched_of ticket key found)
-found_stands f ticket key desk now content (founds.Row doc) legal eviction sure told d waits is reads =
-    let w = waiting_stored f ticket key desk content legal eviction sure told d waits in
-    let same : w.0 ≡ doc = (let e = sym w.1 ∙ is in cc) in
-    fetched_row f ticket key doc (fetched_of ticket key (founds.Row doc)) d.is_told legal eviction waits (w.2 ∙ ap Some same) refl refl refl
-found_stands f ticket key desk now content founds.Absent legal eviction sure told d waits is reads =
-    let w = waiting_stored f ticket key desk content legal eviction sure told d waits in
-    absurd (let e = sym w.1 ∙ is in cc)
-found_stands f ticket key desk now content (founds.Failed fault) legal eviction sure told d waits is reads =
-    fetched_any f ticket key (fetched_of ticket key (founds.Failed fault)) d.is_told legal eviction waits refl refl (fresh_faults desk.read_faults fault f.events (let n = reads.0 in omega arith) d.told)
-found_stands f ticket key desk now content founds.NoMemory legal eviction sure told d waits is reads =
-    fetched_any f ticket key (fetched_of ticket key founds.NoMemory) d.is_told legal eviction waits refl refl tt
-
 -- a store that tells holds something
-pub told_content : (content : Option Content) → IsSome content → (c : Content) × (content ≡ Some c)
-told_content None h = absurd (cc)
-told_content (Some c) h = (c, refl)
+pub telling_content : (content : Option Content) → IsSome content → (c : Content) × (content ≡ Some c)
+telling_content None h = absurd (cc)
+telling_content (Some c) h = (c, refl)
+
+-- what a store holds of a key is what was found, where it tells what it holds
+abbrev IsFoundAt : DeskData → List ℕ → FoundData → Type 0
+IsFoundAt desk key found = (c : Content) → desk.keeper.content ≡ Some c → IsFoundIn c key found
+
+-- what was found at a sure desk stands for whoever waits at a ticket
+found_stands : (f : FrontData) (ticket : Ticket) (key : List ℕ) (desk now : DeskData) (found : FoundData) → IsLegal f → f.config.eviction ≡ Value → desk.doubt ≡ None → DeskStands f desk
+    → is_waiting f ticket key ≡ true → IsFoundAt desk key found → Reads desk now found → FetchedStands f (fetched_of ticket key found)
+found_stands f ticket key desk now (founds.Row doc) legal eviction sure d waits is reads =
+    fetched_row f ticket key doc (fetched_of ticket key (founds.Row doc)) legal waits
+    (λ told.
+    let holds = telling_content desk.keeper.content (d.tells told) in
+    let w = waiting_stored f ticket key desk holds.0 legal eviction sure holds.1 d told waits in
+    let same : w.0 ≡ doc = (let e = sym w.1 ∙ is holds.0 holds.1 in cc) in
+    w.2 ∙ ap Some same)
+    refl refl refl
+found_stands f ticket key desk now founds.Absent legal eviction sure d waits is reads =
+    fetched_any f ticket key (fetched_of ticket key founds.Absent) waits refl refl
+    (λ told.
+    let holds = telling_content desk.keeper.content (d.tells told) in
+    let w = waiting_stored f ticket key desk holds.0 legal eviction sure holds.1 d told waits in
+    absurd (let e = sym w.1 ∙ is holds.0 holds.1 in cc))
+found_stands f ticket key desk now (founds.Failed fault) legal eviction sure d waits is reads =
+    fetched_any f ticket key (fetched_of ticket key (founds.Failed fault)) waits refl refl (fresh_faults desk.read_faults fault f.events (let n = reads.0 in omega arith) d.faults)
+found_stands f ticket key desk now founds.NoMemory legal eviction sure d waits is reads =
+    fetched_any f ticket key (fetched_of ticket key founds.NoMemory) waits refl refl tt
 
 -- A read for whoever waits longest in a stripe stands.
 pub read_at : (f₀ f : FrontData) (stripe : ℕ) (x : StripeData) (number : ℕ) (key : Vec ℕ Global) (desk now : DeskData) (found : FoundData) → f ≡ f₀ → IsLegal f → f₀.config.eviction ≡ Value → StripeStands f stripe x
-    → desk.doubt ≡ None → IsSome desk.keeper.content → DeskStands f₀ desk → IsOldest (first_waiting x.places) (Some (number, key)) → ((c : Content) → desk.keeper.content ≡ Some c → IsFoundIn c key.items found) → Reads desk now found
+    → desk.doubt ≡ None → DeskStands f₀ desk → IsOldest (first_waiting x.places) (Some (number, key)) → ((c : Content) → desk.keeper.content ≡ Some c → IsFoundIn c key.items found) → Reads desk now found
     → FetchedStands f₀ (fetched_of (ticket_of stripe number) key.items found)
-read_at f₀ f stripe x number key desk now found front legal eviction s sure tells d oldest is reads =
-    let told = told_content desk.keeper.content tells in
-    found_stands f₀ (ticket_of stripe number) key.items desk now told.0 found (subst IsLegal front legal) eviction sure told.1 d
-    (oldest_waits f₀ stripe x number key (subst (λ (g : FrontData). StripeStands g stripe x) front s) oldest) (is told.0 told.1) reads
+read_at f₀ f stripe x number key desk now found front legal eviction s sure d oldest is reads =
+    found_stands f₀ (ticket_of stripe number) key.items desk now found (subst IsLegal front legal) eviction sure d
+    (oldest_waits f₀ stripe x number key (subst (λ (g : FrontData). StripeStands g stripe x) front s) oldest) is reads
 
 -- a place that isn't missing is one
 some_outcome : (o : Option Outcome) → (o ≡ None → ⊥) → (outcome : Outcome) × (o ≡ Some outcome)
@@ -133,7 +143,7 @@ module _ (f : FrontData) (ticket : Ticket) (key : List ℕ) (found : FoundData) 
   place_waits place is p = subst (λ (t : Ticket). is_waiting f t place.key ≡ true) (ticket_is ticket.stripe place.number ticket refl is) p.waiting
 
   place_key : (place : PlaceData) → place.number ≡ ticket.number → PlaceStands f ticket.stripe place → place.key ≡ key
-  place_key place is p = fetched_key f (fetched_of ticket key found) place.key s.is_told legal value-eviction r (place_waits place is p)
+  place_key place is p = fetched_key f (fetched_of ticket key found) place.key legal r (place_waits place is p)
 
   key_waits : (outcome_at x.places ticket.number ≡ None → ⊥) → (is_waiting f ticket key ≡ true) × (stripe_of key f.config.stripes ≡ ticket.stripe)
   key_waits has =
@@ -147,11 +157,11 @@ module _ (f : FrontData) (ticket : Ticket) (key : List ℕ) (found : FoundData) 
 
   -- the store has no live document
   pub absent_stands : found ≡ founds.Absent → (place : PlaceData) → place.number ≡ ticket.number → PlaceStands f ticket.stripe place → OutcomeStands f (ticket_of ticket.stripe place.number) place.key outcomes.Absent
-  absent_stands is place number p = subst (λ (o : FoundData). FoundStands f ticket o) is r.found place.key (place_waits place number p)
+  absent_stands is place number p = subst (λ (o : FoundData). FoundStands f ticket o) is r.found s.is_told place.key (place_waits place number p)
 
   module _ (meta : Meta) (value : List ℕ) (is : found ≡ founds.Row (doc_from meta value)) (has : outcome_at x.places ticket.number ≡ None → ⊥) where
     row_doc : get (world_of f).docs key ≡ Some (doc_from meta value)
-    row_doc = subst (λ (o : FoundData). FoundStands f ticket o) is r.found key (key_waits has).0
+    row_doc = subst (λ (o : FoundData). FoundStands f ticket o) is r.found s.is_told key (key_waits has).0
 
     row_stays : meta.deleted ≡ false
     row_stays =

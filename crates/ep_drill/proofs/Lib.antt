@@ -1,7 +1,6 @@
 pub mod Lists
 pub mod ReadLemmas
 pub mod AskLemmas
-pub mod WaitLemmas
 pub mod StoreLemmas
 pub mod PartLemmas
 pub mod SetLemmas

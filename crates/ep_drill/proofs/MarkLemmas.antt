@@ -10,7 +10,7 @@ use Rattle.ep_model.specs.Front.{world_of, with_event, marked}
 use Rattle.ep_model.specs.Legal.{May, MayMark, IsLegal}
 use Rattle.hold_stage.specs.Touches.{there, is_stripe}
 use Rattle.hold_stage.specs.Grows.{Grown, Noted}
-use Rattle.hold_stage.specs.Went.{noted}
+use Rattle.hold_stage.specs.Went.{with_noted}
 use Rattle.hold_stage.proofs.Callers.{same_is}
 use Rattle.hold_stage.proofs.Bounds.{legal_bounds, marked_step}
 use Rattle.hold_stage.proofs.RisesLemmas.{may_of, opened_unmarked}
@@ -94,7 +94,7 @@ mark_home config stripe number old new marking in-it home told kept p is = at (i
     at false e = subst (λ (o : Option Part). IsSome o) (sym (kept p is e)) (home p is)
 
 -- and then the history says which it was
-pub mark_alone : (f g : FrontData) (stripe number before after : ℕ) (old new : Option Part) (marking : Marking) → IsSome old → MarksPart old new number marking → HasMarked g stripe number before after marking → g ≡ noted f (marked_by stripe number marking)
+pub mark_alone : (f g : FrontData) (stripe number before after : ℕ) (old new : Option Part) (marking : Marking) → IsSome old → MarksPart old new number marking → HasMarked g stripe number before after marking → g ≡ with_noted f (marked_by stripe number marking)
     → IsMarked f g stripe number marking
 mark_alone f g stripe number before after old new markings.Idle some told has is = (ap (λ (h : FrontData). marked h stripe) (sym is) ∙ has.0, is)
 mark_alone f g stripe number before after old new (markings.Raised other) some told has is = (has.0, is)

@@ -27,7 +27,7 @@ use Rattle.ep_drill.specs.declared.data.FoundData.{FoundData}
 use Rattle.ep_drill.specs.declared.data.FoundData.TheVariants as founds
 use Rattle.ep_drill.specs.Parts.{part_stands}
 use Rattle.ep_drill.specs.Calls.{AreHome}
-use Rattle.ep_drill.specs.Answers.{IsFlushed}
+use Rattle.ep_drill.specs.StoreSide.{IsFlushed}
 use Rattle.ep_drill.specs.Fetches.{fetched_data, IsMerged}
 use Rattle.ep_drill.specs.Stands.{DeskStands, BatchStands, FetchedStands}
 use Rattle.ep_drill.specs.Core.{BenchStands, Ready, Moved, Worked}

@@ -12,10 +12,10 @@ use Rattle.ep_model.specs.declared.event.Ticket.{Ticket}
 use Rattle.ep_model.specs.declared.data.EventData.{EventData}
 use Rattle.ep_model.specs.declared.data.EventData.TheVariants as events
 use Rattle.ep_model.specs.declared.data.FrontData.{FrontData}
-use Rattle.ep_model.specs.World.{Doc, Docs, World}
+use Rattle.ep_model.specs.World.{Doc, Docs, World, uuid_of}
 use Rattle.ep_model.specs.History.{upto}
 use Rattle.ep_model.specs.Front.{begun, world_of, with_event, marked}
-use Rattle.ep_model.specs.Legal.{IsUnused, IsBelow, IsNoFault, HasAsked, HasFailed, May, IsLegal}
+use Rattle.ep_model.specs.Legal.{IsUnused, IsBelow, IsNoFault, HasAsked, HasFailedRead, May, IsLegal}
 use Rattle.ep_model.specs.Mutations.{mutations, above}
 use Rattle.hold_stage.proofs.Callers.{same_is}
 use Rattle.hold_stage.proofs.Later.{same_told, world_step, all_append}
@@ -25,7 +25,7 @@ use Rattle.kv_keeper.specs.declared.data.BatchData.{BatchData}
 use Rattle.kv_keeper.specs.declared.data.DeskData.{DeskData}
 use Rattle.kv_keeper.specs.Content.{Content, KeeperData}
 use Rattle.kv_keeper.specs.Kept.{IsDoubtful, all_committed}
-use Rattle.ep_drill.specs.Answers.{state_for, whole}
+use Rattle.ep_drill.specs.StoreSide.{state_for, whole}
 use Rattle.kv_keeper.specs.Batch.{laid}
 use Rattle.flat_parts.specs.declared.data.NodeData.{NodeData}
 use Rattle.flat_parts.specs.declared.data.Outcome.{Outcome}
@@ -35,14 +35,15 @@ use Rattle.flat_parts.specs.declared.data.StripeData.{StripeData}
 use Rattle.flat_parts.specs.declared.data.QueueData.{QueueData}
 use Rattle.flat_parts.specs.Nodes.{node_of, node_at, has_value, is_ejectable, ejected, settle_place, settled}
 use Rattle.flat_parts.specs.Steps.{page_step, restored}
-use Rattle.hold_stage.proofs.RisesLemmas.{high_rises}
-use Rattle.ep_drill.specs.Stands.{ValueStands, NodeStands, IsGone, IsNoRead, IsAbsent, OutcomeStands, ticket_of, PlaceStands, StripeStands, QueueStands, IsFaultWithin, HoldsIfTold, ContentStands, DeskStands, BatchStands}
-use Rattle.ep_drill.specs.Keeps.{has_failed_later, waiting_later, mutations_step, same_table}
+use Rattle.hold_stage.proofs.RisesLemmas.{high_rises, opened_unstored}
+use Rattle.hold_stage.specs.Waits.{IsNoRead}
+use Rattle.ep_drill.specs.Stands.{ValueStands, NodeStands, IsGone, IsAbsent, OutcomeStands, ticket_of, PlaceStands, StripeStands, QueueStands, IsFaultWithin, HoldsIfTelling, ContentStands, DeskStands, BatchStands}
+use Rattle.hold_stage.proofs.ApartLemmas.{has_failed_later, waiting_later, mutations_step, same_table}
 use Rattle.ep_drill.proofs.ReadLemmas.{IsCalm, places_calm, stripe_calm}
 use Rattle.ep_drill.proofs.AskLemmas.{with_places, ticket_is}
 use Rattle.ep_drill.proofs.SetLemmas.{node_at_put}
-use Rattle.ep_drill.proofs.WaitLemmas.{and_left, and_right, not_true}
-use Rattle.ep_drill.proofs.StoreLemmas.{upto_step}
+use Rattle.hold_stage.proofs.WaitLemmas.{and_left, and_right, not_true}
+use Rattle.ep_drill.proofs.StoreLemmas.{tells_whole, tells_on, upto_step}
 
 -- a stripe is marked
 module _ (f : FrontData) (stripe number : ℕ) (x : StripeData) (opened : (world_of f).opened ≡ true) (above-mark : marked f stripe < number) (stored : number ≤ (world_of f).persisted) (s : StripeStands f stripe x) where
@@ -173,7 +174,7 @@ module _ (f : FrontData) (stripe fault : ℕ) (ticket : Ticket) (x : StripeData)
   unfolding May
   may_fail = record { asked = asks; once = once }
 
-  failed_here : HasFailed (with_event f failure).events ticket fault
+  failed_here : HasFailedRead (with_event f failure).events ticket fault
   failed_here = record { before = f.events; later = []; failed = refl }
 
   -- what stood of a place but for its outcome
@@ -197,7 +198,7 @@ module _ (f : FrontData) (stripe fault : ℕ) (ticket : Ticket) (x : StripeData)
       elim (place.number == ticket.number) as (λ b. place.number == ticket.number ≡ b → PlaceStands (with_event f failure) stripe (cond b (record place { outcome = outcomes.Failed fault }) place)) [
         | true ↦ λ t.
             let e = ticket_is stripe place.number ticket here ((Decides-eqb place.number ticket.number).0 t) in
-            place_rest place (outcomes.Failed fault) h (subst (λ (k : Ticket). HasFailed (with_event f failure).events k fault) (sym e) failed_here)
+            place_rest place (outcomes.Failed fault) h (subst (λ (k : Ticket). HasFailedRead (with_event f failure).events k fault) (sym e) failed_here)
         | false ↦ λ t. place_rest place place.outcome h (other_outcome place place.outcome (λ is. let e = (Decides-eqb place.number ticket.number).1 is in cc) h.outcome)
       ] refl
 
@@ -244,7 +245,7 @@ module _ (f : FrontData) (desk : DeskData) (batch : BatchData) (legal : IsLegal 
 
   pub may_persist : May f success
   unfolding May
-  may_persist = record { opened = b.opened; above = b.above; within = b.top }
+  may_persist = record { opened = opened_unstored f legal (let low = b.above in let top = b.top in omega arith); above = b.above; within = b.top }
 
   persisted_is : (world_of (with_event f success)).persisted ≡ batch.to
   persisted_is = ap (λ (w : World). w.persisted) (world_step f success)
@@ -253,8 +254,8 @@ module _ (f : FrontData) (desk : DeskData) (batch : BatchData) (legal : IsLegal 
   persisted_queue q s =
       let same = world_step f success in
       record {
-        items =
-            ap (above batch.to) s.items
+        items = λ told.
+            ap (above batch.to) (s.items (sym (same_told f success) ∙ told))
             ∙ above_above (world_of f).persisted batch.to (mutations (begun f) f.events) (let h = b.above in omega arith)
             ∙ sym (ap (λ n. above n (mutations (begun f) (with_event f success).events)) persisted_is ∙ ap (above batch.to) (mutations_step f success ∙ append-nil (mutations (begun f) f.events)));
         high = s.high ∙ sym (ap (λ (w : World). w.high) same);
@@ -262,8 +263,7 @@ module _ (f : FrontData) (desk : DeskData) (batch : BatchData) (legal : IsLegal 
         persisted = sym persisted_is;
         state = s.state ∙ sym (ap (λ (w : World). w.state) same);
         opened = s.opened ∙ sym (ap (λ (w : World). w.opened) same);
-        table = same_table f success ∙ s.table;
-        is_told = same_told f success ∙ s.is_told;
+        uuid = s.uuid ∙ sym (ap uuid_of (same_table f success));
       }
 
   at_batch : upto (begun f) (with_event f success).events batch.to ≡ upto (begun f) f.events batch.to
@@ -273,28 +273,28 @@ module _ (f : FrontData) (desk : DeskData) (batch : BatchData) (legal : IsLegal 
   before = subst (λ (o : Option ℕ). ContentStands f desk.keeper desk.stored o) sure d.holds
 
   -- what the store told holds the history up to the batch's number, once the batch is in it
-  laid_holds : (content : Option Content) → HoldsIfTold f content desk.stored → HoldsIfTold f (all_committed content batch (state_for batch)) batch.to
+  laid_holds : (content : Option Content) → HoldsIfTelling f content desk.stored → HoldsIfTelling f (all_committed content batch (state_for batch)) batch.to
   laid_holds None h = tt
-  laid_holds (Some content) h = record { docs = ap (λ (docs : Docs). laid batch.rows docs) h.docs ∙ b.docs; version = refl; high = refl; maxcas = b.maxcas }
+  laid_holds (Some content) h = record { docs = λ told. ap (λ (docs : Docs). laid batch.rows docs) (h.docs told) ∙ b.docs told; version = refl; high = refl; maxcas = b.maxcas }
 
-  told_on : (content : Option Content) → HoldsIfTold f content batch.to → HoldsIfTold (with_event f success) content batch.to
-  told_on None h = tt
-  told_on (Some content) h = record { docs = h.docs ∙ ap (λ (w : World). w.docs) (sym at_batch); version = h.version; high = h.high; maxcas = h.maxcas ∙ ap (λ (w : World). w.maxcas) (sym at_batch) }
+  telling_on : (content : Option Content) → HoldsIfTelling f content batch.to → HoldsIfTelling (with_event f success) content batch.to
+  telling_on None h = tt
+  telling_on (Some content) h = record { docs = λ told. h.docs (sym (same_told f success) ∙ told) ∙ ap (λ (w : World). w.docs) (sym at_batch); version = h.version; high = h.high; maxcas = h.maxcas ∙ ap (λ (w : World). w.maxcas) (sym at_batch) }
 
   pub persisted_desk : DeskStands (with_event f success) (record desk { keeper = record desk.keeper { content = whole desk.keeper batch }; stored = batch.to; noted = batch.to; doubt = None })
   persisted_desk = record {
     low = omega (arith, persisted_is);
     top = let h = high_rises f success in let t = b.top in omega arith;
-    holds = told_on (whole desk.keeper batch) (laid_holds desk.keeper.content before);
+    holds = telling_on (whole desk.keeper batch) (laid_holds desk.keeper.content before);
     persisted = sym persisted_is;
-    told = all_append (IsFaultWithin desk.read_faults) f.events (success ∷ []) d.told (tt, tt);
-    is_told = same_told f success ∙ d.is_told;
+    faults = all_append (IsFaultWithin desk.read_faults) f.events (success ∷ []) d.faults (tt, tt);
+    tells = λ told. tells_whole desk.keeper.content batch (state_for batch) (d.tells (sym (same_told f success) ∙ told));
   }
 
   -- the commit failed: the store holds what it held, or all of it
   pub doubted_desk : (keeper : KeeperData) → IsDoubtful desk.keeper (whole desk.keeper batch) keeper → DeskStands f (record desk { keeper = keeper; doubt = Some batch.to })
   doubted_desk keeper doubtful =
-      let all : HoldsIfTold f (whole desk.keeper batch) batch.to = laid_holds desk.keeper.content before in
+      let all : HoldsIfTelling f (whole desk.keeper batch) batch.to = laid_holds desk.keeper.content before in
       record {
         low = d.low;
         top = d.top;
@@ -302,11 +302,11 @@ module _ (f : FrontData) (desk : DeskData) (batch : BatchData) (legal : IsLegal 
           b.low,
           b.top,
           elim doubtful.which [
-            | inl old ↦ inl (subst (λ (o : Option Content). HoldsIfTold f o desk.stored) (sym old.0) before, subst (λ (o : Option Content). HoldsIfTold f o batch.to) (sym old.1) all)
-            | inr new ↦ inr (subst (λ (o : Option Content). HoldsIfTold f o batch.to) (sym new.0) all, subst (λ (o : Option Content). HoldsIfTold f o desk.stored) (sym new.1) before)
+            | inl old ↦ inl (subst (λ (o : Option Content). HoldsIfTelling f o desk.stored) (sym old.0) before, subst (λ (o : Option Content). HoldsIfTelling f o batch.to) (sym old.1) all)
+            | inr new ↦ inr (subst (λ (o : Option Content). HoldsIfTelling f o batch.to) (sym new.0) all, subst (λ (o : Option Content). HoldsIfTelling f o desk.stored) (sym new.1) before)
           ],
         );
         persisted = d.persisted;
-        told = d.told;
-        is_told = d.is_told;
+        faults = d.faults;
+        tells = λ told. tells_on desk.keeper keeper batch (d.tells told) doubtful;
       }

@@ -20,7 +20,7 @@ use Rattle.ep_model.specs.declared.data.EventData.{EventData}
 use Rattle.ep_model.specs.declared.data.EventData.TheVariants as events
 use Rattle.ep_model.specs.declared.data.FrontData.{FrontData}
 use Rattle.ep_model.specs.Config.{fit_of}
-use Rattle.ep_model.specs.World.{Doc, World, empty_world, live, live_of, is_live, secs, stored_expiry, doc_from}
+use Rattle.ep_model.specs.World.{Doc, World, empty_world, live, live_of, is_live, secs, stored_expiry, doc_from, uuid_of}
 use Rattle.ep_model.specs.Stripes.{stripe_of}
 use Rattle.ep_model.specs.Refusals.{state_refusal, size_refusal, store_refusal, number_refusal}
 use Rattle.ep_model.specs.History.{call_effect}
@@ -29,7 +29,7 @@ use Rattle.ep_model.specs.Front.{begun, world_of, with_event, marked}
 use Rattle.ep_model.specs.Legal.{IsUnused, IsBelow, May, IsLegal}
 use Rattle.ep_model.proofs.ReadBack.{get-put, get-put_other}
 use Rattle.ep_model.specs.Mutations.{put_by, mutation_of, mutations, above}
-use Rattle.hold_stage.specs.Waits.{puts_on}
+use Rattle.hold_stage.specs.Waits.{puts_on, IsNoRead}
 use Rattle.ep_model.proofs.EffectLemmas.{IsNext, answer_is_next, call_told}
 use Rattle.hold_stage.proofs.Views.{frame_after}
 use Rattle.hold_stage.proofs.Later.{same_told, world_step, all_append}
@@ -45,8 +45,8 @@ use Rattle.flat_parts.specs.declared.data.Step.{Step}
 use Rattle.flat_parts.specs.declared.data.Step.TheVariants as steps
 use Rattle.flat_parts.specs.Nodes.{node_of, node_at, put_node, released, forgotten}
 use Rattle.flat_parts.specs.Steps.{shown_value, shown_docs, shown_world, stripe_after, queue_after, write_step}
-use Rattle.ep_drill.specs.Stands.{ValueStands, NodeStands, IsGone, IsNoRead, IsAbsent, OutcomeStands, ticket_of, PlaceStands, StripeStands, QueueStands}
-use Rattle.ep_drill.specs.Keeps.{has_failed_later, waiting_later, mutations_step, same_table}
+use Rattle.ep_drill.specs.Stands.{ValueStands, NodeStands, IsGone, IsAbsent, OutcomeStands, ticket_of, PlaceStands, StripeStands, QueueStands}
+use Rattle.hold_stage.proofs.ApartLemmas.{has_failed_later, waiting_later, mutations_step, same_table}
 use Rattle.ep_drill.proofs.AskLemmas.{with_places}
 use Rattle.ep_drill.proofs.ReadLemmas.{all_filter, all_map, IsCalm, places_calm, stripe_calm, released_all, released_none}
 
@@ -115,7 +115,7 @@ shown_cas f stripe x key now (Some node) opened here s found =
     ∙ ap (λ (o : Option Doc). cas_of (live_of o now)) (sym n.found)
 
 -- a Set is answered by the state, the size, the CAS and the numbers
-store_same : (v w : World) (key value : List ℕ) (flags expiration cas now : ℕ) → cas_of (live w key now) ≡ cas_of (live v key now) → w.state ≡ v.state → w.fit ≡ v.fit → w.high ≡ v.high → w.maxcas ≡ v.maxcas → w.failovers ≡ v.failovers
+store_same : (v w : World) (key value : List ℕ) (flags expiration cas now : ℕ) → cas_of (live w key now) ≡ cas_of (live v key now) → w.state ≡ v.state → w.fit ≡ v.fit → w.high ≡ v.high → w.maxcas ≡ v.maxcas → uuid_of w.failovers ≡ uuid_of v.failovers
     → answer w (calls.Store Set key value flags expiration cas) now ≡ answer v (calls.Store Set key value flags expiration cas) now
 store_same v w key value flags expiration cas now same state fit high maxcas table =
     ap (λ (c : Option ℕ). unless (state_refusal w.state true) (unless (size_refusal w.fit (length key) (length value)) (unless (store_refusal Set cas c) (stores w key value flags (stored_expiry expiration now) now)))) same
@@ -137,8 +137,8 @@ calm_all stripe caller now call reply value (place ∷ places) = (record { unuse
 -- an event that puts nothing and leaves the world leaves a queue
 pub queue_same : (f : FrontData) (event : EventData) (q : QueueData) → world_of (with_event f event) ≡ world_of f → mutation_of (world_of f) event ≡ None → QueueStands f q → QueueStands (with_event f event) q
 queue_same f event q world puts s = record {
-  items =
-      s.items
+  items = λ told.
+      s.items (sym (same_told f event) ∙ told)
       ∙ sym (
       ap (λ (w : World). above w.persisted (mutations (begun f) (with_event f event).events)) world
       ∙ ap (λ (l : List (List ℕ × Doc)). above (world_of f).persisted l) (mutations_step f event ∙ ap (λ (p : Option (List ℕ × Doc)). mutations (begun f) f.events ++ option_to_list p) puts ∙ append-nil (mutations (begun f) f.events))
@@ -148,8 +148,7 @@ queue_same f event q world puts s = record {
   persisted = s.persisted ∙ sym (ap (λ (w : World). w.persisted) world);
   state = s.state ∙ sym (ap (λ (w : World). w.state) world);
   opened = s.opened ∙ sym (ap (λ (w : World). w.opened) world);
-  table = same_table f event ∙ s.table;
-  is_told = same_told f event ∙ s.is_told;
+  uuid = s.uuid ∙ sym (ap uuid_of (same_table f event));
 }
 
 -- a document was put under the key, or nothing: the parts stand behind the answered call
@@ -240,8 +239,8 @@ module _ (f : FrontData) (stripe caller now : ℕ) (key : List ℕ) (call : Call
       let over : nat_lt (world_of f).persisted doc.seqno ≡ true = (let h : (world_of f).persisted < doc.seqno = omega arith in grind (arith, nat_tests)) in
       let kept : (world_of (with_event f event)).persisted ≡ (world_of f).persisted = ap (λ (w : World). w.persisted) world in
       record {
-        items =
-            ap (λ (l : List (List ℕ × Doc)). l ++ (key, doc) ∷ []) s.items
+        items = λ told.
+            ap (λ (l : List (List ℕ × Doc)). l ++ (key, doc) ∷ []) (s.items (sym (same_told f event) ∙ told))
             ∙ sym (
             ap (λ n. above n (mutations (begun f) (with_event f event).events)) kept
             ∙ ap (λ (l : List (List ℕ × Doc)). above (world_of f).persisted l) (mutations_step f event ∙ ap (λ (p : Option (List ℕ × Doc)). mutations (begun f) f.events ++ option_to_list p) puts)
@@ -253,8 +252,7 @@ module _ (f : FrontData) (stripe caller now : ℕ) (key : List ℕ) (call : Call
         persisted = s.persisted ∙ sym kept;
         state = s.state ∙ sym (ap (λ (w : World). w.state) world);
         opened = s.opened ∙ sym (ap (λ (w : World). w.opened) world);
-        table = same_table f event ∙ s.table;
-        is_told = same_told f event ∙ s.is_told;
+        uuid = s.uuid ∙ sym (ap uuid_of (same_table f event));
       }
 
   -- the parts after the effect of a call on the key
@@ -297,14 +295,14 @@ module _ (f : FrontData) (stripe caller now fit : ℕ) (key value : List ℕ) (f
   given_is : (world_of f).opened ≡ true → answer (world_of f) call now ≡ given
   given_is opened =
       store_same (shown_world x q 0 fit key) (world_of f) key value flags expiration cas now (sym (shown_cas f stripe x key now (node_at x.nodes key) opened here s refl)) (sym s.state)
-      ((frame_after (begun f) f.events).fit ∙ sym fits) (sym t.high) (sym t.maxcas) t.table
+      ((frame_after (begun f) f.events).fit ∙ sym fits) (sym t.high) (sym t.maxcas) (sym t.uuid)
 
   write_done : (world_of f).opened ≡ true → AfterWrite f stripe caller call now (steps.Done given.reply) (stripe_after kept given.effect) (queue_after q given.effect)
   unfolding May
   write_done opened =
       let same = given_is opened in
       let event = events.Called caller call now given.reply [] in
-      let did : call_effect (world_of f) call now given.reply ≡ given.effect = call_told (world_of f) call now given.reply t.is_told ∙ ap (λ (a : Answer). a.effect) same in
+      let did : call_effect (world_of f) call now given.reply ≡ given.effect = call_told (world_of f) call now given.reply s.is_told ∙ ap (λ (a : Answer). a.effect) same in
       let stands = effect_stands f stripe caller now key call given.reply [] legal here opened given.effect kept q
       (subst (λ (a : Answer). IsNext (world_of f) key now a.effect) same (answer_is_next (world_of f) call now key refl))
       (world_step f event ∙ ap (λ (e : Effect). apply (world_of f) e) did)

@@ -1,5 +1,5 @@
 -- What the store's side notes is legal, its own, and touches what it holds; and what it leaves stands.
-use Rattle.std.proofs.Common.{◌≡◌, ℕ, ◌+◌, true, ◌⊎◌, inl, inr, List, [], ◌∷◌, ◌++◌, take, add-one, refl, sym, ap, subst, ◌∙◌, arith}
+use Rattle.std.proofs.Common.{◌≡◌, ℕ, ◌+◌, true, false, ◌⊎◌, inl, inr, List, [], ◌∷◌, ◌++◌, take, add-one, refl, sym, ap, subst, ◌∙◌, arith}
 use Rattle.std.specs.Prelude.{Option, Some, None, slice_get}
 use Rattle.std.specs.FinMap.{insert}
 use Rattle.std.proofs.Math.Seq.{take-suc}
@@ -23,7 +23,7 @@ use Rattle.kv_keeper.specs.Kept.{IsDoubtful, all_committed}
 use Rattle.flat_parts.specs.declared.data.QueueData.{QueueData}
 use Rattle.ep_drill.specs.declared.store.Flushed.TheVariants as flushes
 use Rattle.ep_drill.specs.Stands.{QueueStands, DeskStands, BatchStands}
-use Rattle.ep_drill.specs.Answers.{IsTaken, IsFlushed, whole}
+use Rattle.ep_drill.specs.StoreSide.{IsTaken, IsFlushed, whole}
 use Rattle.ep_drill.proofs.StoreLemmas.{batch_taken}
 use Rattle.ep_drill.proofs.PartLemmas.{may_persist, persisted_queue, persisted_desk, doubted_desk}
 
@@ -45,24 +45,26 @@ laid_more first rows more items i key other doc same before is key-is doc-is add
     ∙ sym (ap (laid_on (laid first docs)) (take_more items i (key, doc) is))
 
 -- What a queue holds makes a batch that stands and goes up to the last mutation, where not all of it is stored.
-pub taken_stands : (f₀ f : FrontData) (stored high persisted top most : ℕ) (q : QueueData) (empty filled : BatchData)
-    → f ≡ f₀ → (world_of f₀).opened ≡ true → stored ≡ (world_of f₀).persisted → IsLegal f → QueueStands f q → high ≡ q.high → persisted ≡ q.persisted → (high ≡ persisted → ⊥)
+pub taken_stands : (f₀ f : FrontData) (desk : DeskData) (high persisted top most : ℕ) (q : QueueData) (empty filled : BatchData)
+    → f ≡ f₀ → DeskStands f₀ desk → IsLegal f → QueueStands f q → high ≡ q.high → persisted ≡ q.persisted → (high ≡ persisted → ⊥)
     → top ≡ q.high → most ≡ q.maxcas → empty ≡ empty_batch top most → filled.to ≡ empty.to → filled.maxcas ≡ empty.maxcas → ((docs : Docs) → laid filled.rows docs ≡ laid_on (laid empty.rows docs) q.items)
-    → AreDistinct filled.rows → IsTaken f₀ stored (Some filled)
-taken_stands f₀ f stored high persisted top most q empty filled front opened is legal s high-is persisted-is differs top-is most-is begins to maxcas laid-is distinct =
-    let here : stored ≡ (world_of f).persisted = is ∙ sym (ap (λ (g : FrontData). (world_of g).persisted) front) in
+    → AreDistinct filled.rows → IsTaken f₀ desk.stored (Some filled)
+taken_stands f₀ f desk high persisted top most q empty filled front d legal s high-is persisted-is differs top-is most-is begins to maxcas laid-is distinct =
+    let d-low = d.low in let d-top = d.top in
+    let stored-is = ap (λ (g : FrontData). (world_of g).persisted) front in
+    let high-of = ap (λ (g : FrontData). (world_of g).high) front in
     let bounds = (legal_bounds f legal).stored in
     let all = s.high in let known = s.persisted in
     let whole : filled.to ≡ q.high = to ∙ ap (λ (b : BatchData). b.to) begins ∙ top-is in
     let lays : (docs : Docs) → laid filled.rows docs ≡ laid_on docs q.items = λ docs. laid-is docs ∙ ap (λ (b : BatchData). laid_on (laid b.rows docs) q.items) begins in (
-      subst (λ (g : FrontData). BatchStands g stored filled) front
-          (batch_taken f q filled stored legal s (ap (λ (g : FrontData). (world_of g).opened) front ∙ opened) here (omega arith)
+      subst (λ (g : FrontData). BatchStands g desk.stored filled) front
+          (batch_taken f q filled desk.stored legal s (omega arith) (omega arith) (omega arith)
           whole
           (maxcas ∙ ap (λ (b : BatchData). b.maxcas) begins ∙ most-is)
           lays),
       whole ∙ s.high ∙ ap (λ (g : FrontData). (world_of g).high) front,
       distinct,
-      λ docs. lays docs ∙ ap (λ (l : List (List ℕ × Doc)). laid_on docs l) (s.items ∙ ap (λ (g : FrontData). above (world_of g).persisted (mutations (begun g) g.events)) front),
+      λ told docs. lays docs ∙ ap (λ (l : List (List ℕ × Doc)). laid_on docs l) (s.items (ap (λ (g : FrontData). (world_of g).told) front ∙ told) ∙ ap (λ (g : FrontData). above (world_of g).persisted (mutations (begun g) g.events)) front),
     )
 
 -- not all is stored where a queue's last number isn't
@@ -105,8 +107,8 @@ module _ (f₀ : FrontData) (before : DeskData) (number most : ℕ) (batch : Bat
       ap (λ n. all_committed before.keeper.content batch (record { version = 1; high = n; maxcas = most })) to
       ∙ ap (λ n. all_committed before.keeper.content batch (record { version = 1; high = batch.to; maxcas = n })) maxcas
 
-  pub commit_none : (m : DeskData) → m ≡ record before { keeper = m.keeper } → m.keeper ≡ before.keeper → IsFlushed f₀ f₀ before m batch flushes.NoMemory
-  commit_none m after same = (refl, after ∙ ap (λ (k : KeeperData). record before { keeper = k }) same)
+  pub commit_none : (m : DeskData) → m ≡ record before { keeper = m.keeper } → m.keeper ≡ before.keeper → before.keeper.roomy ≡ false → IsFlushed f₀ f₀ before m batch flushes.NoMemory
+  commit_none m after same wanting = (refl, after ∙ ap (λ (k : KeeperData). record before { keeper = k }) same, wanting)
 
   pub commit_failed : (m : DeskData) → m ≡ record before { keeper = m.keeper; doubt = Some batch.to } → IsDoubtful before.keeper (all_committed before.keeper.content batch given) m.keeper → IsFlushed f₀ f₀ before m batch flushes.Failed
   commit_failed m after doubtful =

@@ -17,7 +17,7 @@ use Rattle.ep_drill.specs.declared.choice.StepChoice.{StepChoice}
 use Rattle.ep_drill.specs.declared.data.BenchData.{BenchData}
 use Rattle.ep_drill.specs.declared.data.CoreData.{CoreData}
 use Rattle.ep_drill.specs.declared.store.Paged.{Paged}
-use Rattle.ep_drill.specs.Answers.{IsPaged}
+use Rattle.ep_drill.specs.StoreSide.{IsPaged}
 use Rattle.ep_drill.specs.Calls.{KeptBut}
 use Rattle.ep_drill.specs.Core.{bench_data, core_data, Moved, Rested, Interleaves, GoesOn}
 use Rattle.ep_drill.specs.Fetches.{HasWaiting}

@@ -1,6 +1,6 @@
 -- What a desk, a batch and a read are to a history, while other events are noted.
 use Rattle.std.proofs.Common.{◌≡◌, ◌<◌, ◌≤◌, ℕ, true, false, inl, inr, List, [], ◌∷◌, ◌++◌, refl, sym, ap, subst, ◌∙◌, arith}
-use Rattle.std.specs.Prelude.{Option, Some, None, ◌==◌, ◌||◌, ◌&&◌, not}
+use Rattle.std.specs.Prelude.{Option, Some, None, IsSome, ◌==◌, ◌||◌, ◌&&◌, not}
 use Rattle.std.specs.List.{AllByRecursion}
 use Rattle.std.specs.FinMap.{get}
 use Rattle.std.proofs.lemmas.Bool.Decides.{Decides-eqb}
@@ -21,20 +21,35 @@ use Rattle.hold_stage.proofs.Later.{same_told, world_step, all_append}
 use Rattle.hold_stage.proofs.Legality.{has_more, one_asker}
 use Rattle.hold_stage.proofs.Bounds.{legal_bounds, all_in, waiting_step}
 use Rattle.hold_stage.proofs.Mutations.{upto_append}
-use Rattle.hold_stage.proofs.Stored.{upto_last, laid_above, doc_upto}
+use Rattle.hold_stage.proofs.Stored.{upto_last, doc_upto}
 use Rattle.kv_keeper.specs.declared.data.BatchData.{BatchData}
 use Rattle.kv_keeper.specs.declared.data.DeskData.{DeskData}
 use Rattle.kv_keeper.specs.Content.{Content, KeeperData}
 use Rattle.kv_keeper.specs.Desk.{with_keeper_faults}
+use Rattle.kv_keeper.specs.Kept.{IsDoubtful, all_committed}
+use Rattle.kv_keeper.specs.declared.keeper.StoreState.{StoreState}
+use Rattle.ep_drill.specs.StoreSide.{state_for, whole}
 use Rattle.kv_keeper.specs.Batch.{laid}
 use Rattle.flat_parts.specs.declared.data.QueueData.{QueueData}
 use Rattle.hold_stage.proofs.DeskLemmas.{persisted_same}
-use Rattle.hold_stage.proofs.RisesLemmas.{high_rises, opened_stays}
+use Rattle.hold_stage.proofs.RisesLemmas.{high_rises}
 use Rattle.ep_drill.specs.declared.data.FetchedData.{FetchedData}
 use Rattle.ep_drill.specs.declared.data.FoundData.{FoundData}
 use Rattle.ep_drill.specs.declared.data.FoundData.TheVariants as founds
-use Rattle.ep_drill.specs.Stands.{QueueStands, IsAbsent, IsFaultWithin, HoldsAt, HoldsIfTold, ContentStands, DeskStands, BatchStands, FoundStands, FetchedStands}
-use Rattle.ep_drill.proofs.WaitLemmas.{and_left, and_right, not_true, docs_apart, waiting_low}
+use Rattle.ep_drill.specs.Stands.{QueueStands, IsAbsent, IsFaultWithin, HoldsAt, HoldsIfTelling, ContentStands, DeskStands, BatchStands, FoundStands, FetchedStands}
+use Rattle.hold_stage.proofs.WaitLemmas.{and_left, and_right, not_true, docs_apart, waiting_asked, waiting_low}
+use Rattle.hold_stage.proofs.HistoryLemmas.{batch_law}
+
+-- a store that tells goes on telling through a commit
+pub tells_whole : (content : Option Content) (batch : BatchData) (state : StoreState) → IsSome content → IsSome (all_committed content batch state)
+tells_whole None batch state h = absurd (cc)
+tells_whole (Some content) batch state h = refl
+
+pub tells_on : (old now : KeeperData) (batch : BatchData) → IsSome old.content → IsDoubtful old (whole old batch) now → IsSome now.content
+tells_on old now batch h doubtful = elim doubtful.which [
+  | inl x ↦ subst (λ (o : Option Content). IsSome o) (sym x.0) h
+  | inr y ↦ subst (λ (o : Option Content). IsSome o) (sym y.0) (tells_whole old.content batch (state_for batch) h)
+]
 
 -- what was there at a number of a front is there at it later
 pub upto_step : (f : FrontData) (event : EventData) (number : ℕ) → (started f.start).high ≤ number → number ≤ (world_of f).high → upto (begun f) (with_event f event).events number ≡ upto (begun f) f.events number
@@ -65,22 +80,22 @@ no_fault_same fault events.Opened test = tt
 holds_later : (f : FrontData) (event : EventData) (content : Content) (number : ℕ) → (started f.start).high ≤ number → number ≤ (world_of f).high → HoldsAt f content number → HoldsAt (with_event f event) content number
 holds_later f event content number low top h =
     let same = upto_step f event number low top in
-    record { docs = h.docs ∙ ap (λ (w : World). w.docs) (sym same); version = h.version; high = h.high; maxcas = h.maxcas ∙ ap (λ (w : World). w.maxcas) (sym same) }
+    record { docs = λ told. h.docs (sym (same_told f event) ∙ told) ∙ ap (λ (w : World). w.docs) (sym same); version = h.version; high = h.high; maxcas = h.maxcas ∙ ap (λ (w : World). w.maxcas) (sym same) }
 
-told_later : (f : FrontData) (event : EventData) (content : Option Content) (number : ℕ) → (started f.start).high ≤ number → number ≤ (world_of f).high → HoldsIfTold f content number → HoldsIfTold (with_event f event) content number
-told_later f event None number low top h = tt
-told_later f event (Some content) number low top h = holds_later f event content number low top h
+telling_later : (f : FrontData) (event : EventData) (content : Option Content) (number : ℕ) → (started f.start).high ≤ number → number ≤ (world_of f).high → HoldsIfTelling f content number → HoldsIfTelling (with_event f event) content number
+telling_later f event None number low top h = tt
+telling_later f event (Some content) number low top h = holds_later f event content number low top h
 
 content_later : (f : FrontData) (event : EventData) (keeper : KeeperData) (stored : ℕ) (doubt : Option ℕ) → (started f.start).high ≤ stored → stored ≤ (world_of f).high → ContentStands f keeper stored doubt → ContentStands (with_event f event) keeper stored doubt
-content_later f event keeper stored None low top h = told_later f event keeper.content stored low top h
+content_later f event keeper stored None low top h = telling_later f event keeper.content stored low top h
 content_later f event keeper stored (Some doubt) low top h =
     let more = high_rises f event in let a = h.0 in let b = h.1 in
     let up : (started f.start).high ≤ doubt = omega arith in (
       a,
       omega arith,
       elim h.2 [
-        | inl x ↦ inl (told_later f event keeper.content stored low top x.0, told_later f event keeper.second doubt up b x.1)
-        | inr y ↦ inr (told_later f event keeper.content doubt up b y.0, told_later f event keeper.second stored low top y.1)
+        | inl x ↦ inl (telling_later f event keeper.content stored low top x.0, telling_later f event keeper.second doubt up b x.1)
+        | inr y ↦ inr (telling_later f event keeper.content doubt up b y.0, telling_later f event keeper.second stored low top y.1)
       ],
     )
 
@@ -95,8 +110,8 @@ desk_keeps_standing f event desk legal test d =
       top = let h = high_rises f event in let t = d.top in omega arith;
       holds = content_later f event desk.keeper desk.stored desk.doubt (omega arith) d.top d.holds;
       persisted = d.persisted ∙ sym p;
-      told = all_append (IsFaultWithin desk.read_faults) f.events (event ∷ []) d.told (within_same desk.read_faults event test, tt);
-      is_told = same_told f event ∙ d.is_told;
+      faults = all_append (IsFaultWithin desk.read_faults) f.events (event ∷ []) d.faults (within_same desk.read_faults event test, tt);
+      tells = λ told. d.tells (sym (same_told f event) ∙ told);
     }
 
 -- more faults than were told are enough
@@ -125,8 +140,8 @@ more_faults f desk faults read_faults le d = record {
   top = d.top;
   holds = faults_hold f desk.keeper faults desk.stored desk.doubt d.holds;
   persisted = d.persisted;
-  told = all_within_more desk.read_faults read_faults f.events le d.told;
-  is_told = d.is_told;
+  faults = all_within_more desk.read_faults read_faults f.events le d.faults;
+  tells = d.tells;
 }
 
 -- the desk tells of a failed read
@@ -141,8 +156,8 @@ desk_tells f ticket fault desk legal some within d =
       top = let h = high_rises f event in let t = d.top in omega arith;
       holds = content_later f event desk.keeper desk.stored desk.doubt (omega arith) d.top d.holds;
       persisted = d.persisted ∙ sym p;
-      told = all_append (IsFaultWithin desk.read_faults) f.events (event ∷ []) d.told ((some, within), tt);
-      is_told = same_told f event ∙ d.is_told;
+      faults = all_append (IsFaultWithin desk.read_faults) f.events (event ∷ []) d.faults ((some, within), tt);
+      tells = λ told. d.tells (sym (same_told f event) ∙ told);
     }
 
 -- so does a batch, over the same store, where the event leaves what is persisted
@@ -153,11 +168,10 @@ batch_keeps f event stored batch start same b =
     let at = upto_step f event stored start (omega arith) in
     let to = upto_step f event batch.to (omega arith) top in
     record {
-      opened = opened_stays f event b.opened;
       above = let more = b.above in omega arith;
       low = low;
       top = let h = high_rises f event in omega arith;
-      docs = ap (λ (w : World). laid batch.rows w.docs) at ∙ b.docs ∙ ap (λ (w : World). w.docs) (sym to);
+      docs = λ told. ap (λ (w : World). laid batch.rows w.docs) at ∙ b.docs (sym (same_told f event) ∙ told) ∙ ap (λ (w : World). w.docs) (sym to);
       maxcas = b.maxcas ∙ ap (λ (w : World). w.maxcas) (sym to);
     }
 
@@ -199,8 +213,8 @@ IsApart (founds.Failed fault) event = IsNoFault fault event
 IsApart founds.NoMemory event = Unit {0}
 
 found_keeps : (f : FrontData) (event : EventData) (ticket : Ticket) (found : FoundData) → HasAsked f.events ticket → May f event → IsApart found event → FoundStands f ticket found → FoundStands (with_event f event) ticket found
-found_keeps f event ticket (founds.Row doc) asked may apart h = λ key is. let w = waited f ticket key event asked may is in w.1 ∙ h key w.0
-found_keeps f event ticket founds.Absent asked may apart h = λ key is. let w = waited f ticket key event asked may is in subst IsAbsent (sym w.1) (h key w.0)
+found_keeps f event ticket (founds.Row doc) asked may apart h = λ told key is. let w = waited f ticket key event asked may is in w.1 ∙ h (sym (same_told f event) ∙ told) key w.0
+found_keeps f event ticket founds.Absent asked may apart h = λ told key is. let w = waited f ticket key event asked may is in subst IsAbsent (sym w.1) (h (sym (same_told f event) ∙ told) key w.0)
 found_keeps f event ticket (founds.Failed fault) asked may apart h = all_append (IsNoFault fault) f.events (event ∷ []) h (apart, tt)
 found_keeps f event ticket founds.NoMemory asked may apart h = tt
 
@@ -212,11 +226,11 @@ fetched_keeps f event fetched may apart r = record {
 }
 
 -- at a ticket one key waits
-pub one_key : (f : FrontData) (ticket : Ticket) (a b : List ℕ) → (world_of f).told ≡ true → IsLegal f → f.config.eviction ≡ Value → is_waiting f ticket a ≡ true → is_waiting f ticket b ≡ true → a ≡ b
-one_key f ticket a b told legal eviction p q =
-    let x = waiting_low f ticket a told legal eviction p in
-    let y = waiting_low f ticket b told legal eviction q in
-    let calls = (one_asker f ticket x.caller y.caller x.call y.call x.before y.before x.later y.later legal x.asked y.asked).1 in
+pub one_key : (f : FrontData) (ticket : Ticket) (a b : List ℕ) → IsLegal f → is_waiting f ticket a ≡ true → is_waiting f ticket b ≡ true → a ≡ b
+one_key f ticket a b legal p q =
+    let x = waiting_asked f ticket a p in
+    let y = waiting_asked f ticket b q in
+    let calls = (one_asker f ticket x.asked.caller y.asked.caller x.asked.call y.asked.call x.asked.before y.asked.before x.asked.later y.asked.later legal x.asked.asked y.asked.asked).1 in
     let keys : Some a ≡ Some b = sym x.keyed ∙ ap key_of calls ∙ y.keyed in
     cc
 
@@ -224,61 +238,61 @@ one_key f ticket a b told legal eviction p q =
 sure_holds : (f : FrontData) (keeper : KeeperData) (content : Content) (stored : ℕ) (doubt : Option ℕ) → doubt ≡ None → keeper.content ≡ Some content → ContentStands f keeper stored doubt → HoldsAt f content stored
 sure_holds f keeper content stored doubt sure told h =
     let here : ContentStands f keeper stored None = subst (λ (o : Option ℕ). ContentStands f keeper stored o) sure h in
-    subst (λ (o : Option Content). HoldsIfTold f o stored) told here
+    subst (λ (o : Option Content). HoldsIfTelling f o stored) told here
 
 -- what the store holds of a key that waits is its document
-pub waiting_stored : (f : FrontData) (ticket : Ticket) (key : List ℕ) (desk : DeskData) (content : Content) → IsLegal f → f.config.eviction ≡ Value → desk.doubt ≡ None → desk.keeper.content ≡ Some content → DeskStands f desk → is_waiting f ticket key ≡ true
+pub waiting_stored : (f : FrontData) (ticket : Ticket) (key : List ℕ) (desk : DeskData) (content : Content) → IsLegal f → f.config.eviction ≡ Value → desk.doubt ≡ None → desk.keeper.content ≡ Some content → DeskStands f desk → (world_of f).told ≡ true → is_waiting f ticket key ≡ true
     → (doc : Doc) × (get content.docs key ≡ Some doc) × (get (world_of f).docs key ≡ Some doc) × (doc.deleted ≡ false)
-waiting_stored f ticket key desk content legal eviction sure told d is =
-    let l = waiting_low f ticket key d.is_told legal eviction is in
+waiting_stored f ticket key desk content legal eviction sure holds d told is =
+    let l = waiting_low f ticket key told legal eviction is in
     let b = legal_bounds f legal in
     let m = b.marked ticket.stripe in let low = l.low in let s = d.low in
-    (l.doc, ap (λ (docs : Docs). get docs key) (sure_holds f desk.keeper content desk.stored desk.doubt sure told d.holds).docs ∙ doc_upto (begun f) f.events desk.stored key l.doc l.found (omega arith), l.found, l.stays)
+    (l.doc, ap (λ (docs : Docs). get docs key) ((sure_holds f desk.keeper content desk.stored desk.doubt sure holds d.holds).docs told) ∙ doc_upto (begun f) f.events desk.stored key l.doc l.found (omega arith), l.found, l.stays)
 
 -- What is to be stored makes a batch that stands.
-pub batch_taken : (f : FrontData) (q : QueueData) (batch : BatchData) (stored : ℕ) → IsLegal f → QueueStands f q → (world_of f).opened ≡ true → stored ≡ (world_of f).persisted → stored < q.high → batch.to ≡ q.high → batch.maxcas ≡ q.maxcas
+pub batch_taken : (f : FrontData) (q : QueueData) (batch : BatchData) (stored : ℕ) → IsLegal f → QueueStands f q → (world_of f).persisted ≤ stored → stored ≤ (world_of f).high → (world_of f).persisted < q.high → batch.to ≡ q.high → batch.maxcas ≡ q.maxcas
     → ((docs : Docs) → laid batch.rows docs ≡ laid_on docs q.items) → BatchStands f stored batch
-batch_taken f q batch stored legal s opened is more to maxcas laid-is =
+batch_taken f q batch stored legal s low top more to maxcas laid-is =
     let b = legal_bounds f legal in
     let start = b.start in let within = b.stored in
     let last = upto_last (begun f) f.events in
     let at : batch.to ≡ (world_of f).high = to ∙ s.high in
     record {
-      opened = opened;
       above = let e = to in omega arith;
       low = let e = to in omega arith;
       top = omega arith;
-      docs =
+      docs = λ told.
           laid-is (upto (begun f) f.events stored).docs
-          ∙ ap (λ (l : List (List ℕ × Doc)). laid_on (upto (begun f) f.events stored).docs l) (s.items ∙ ap (λ n. above n (mutations (begun f) f.events)) (sym is))
-          ∙ laid_above (begun f) f.events stored (omega arith) (omega arith)
+          ∙ ap (λ (l : List (List ℕ × Doc)). laid_on (upto (begun f) f.events stored).docs l) (s.items told)
+          ∙ batch_law f (world_of f).persisted stored (above (world_of f).persisted (mutations (begun f) f.events)) (record { low = start; top = within }) low top (λ key. refl)
           ∙ last.docs ∙ ap (λ n. (upto (begun f) f.events n).docs) (sym at);
       maxcas = maxcas ∙ s.maxcas ∙ last.maxcas ∙ ap (λ n. (upto (begun f) f.events n).maxcas) (sym at);
     }
 
 -- the key of a read is that of whoever waits at its ticket
-pub fetched_key : (f : FrontData) (fetched : FetchedData) (key : List ℕ) → (world_of f).told ≡ true → IsLegal f → f.config.eviction ≡ Value → FetchedStands f fetched → is_waiting f fetched.ticket key ≡ true → key ≡ fetched.key
-fetched_key f fetched key told legal eviction r is =
-    let x = waiting_low f fetched.ticket key told legal eviction is in
-    let calls = (one_asker f fetched.ticket x.caller r.asked.caller x.call r.asked.call x.before r.asked.before x.later r.asked.later legal x.asked r.asked.asked).1 in
+pub fetched_key : (f : FrontData) (fetched : FetchedData) (key : List ℕ) → IsLegal f → FetchedStands f fetched → is_waiting f fetched.ticket key ≡ true → key ≡ fetched.key
+fetched_key f fetched key legal r is =
+    let x = waiting_asked f fetched.ticket key is in
+    let calls = (one_asker f fetched.ticket x.asked.caller r.asked.caller x.asked.call r.asked.call x.asked.before r.asked.before x.asked.later r.asked.later legal x.asked.asked r.asked.asked).1 in
     let keys : Some key ≡ Some fetched.key = sym x.keyed ∙ ap key_of calls ∙ r.keyed in
     cc
 
 -- whoever waits at a ticket asked there
-pub fetched_any : (f : FrontData) (ticket : Ticket) (key : List ℕ) (fetched : FetchedData) → (world_of f).told ≡ true → IsLegal f → f.config.eviction ≡ Value → is_waiting f ticket key ≡ true → fetched.ticket ≡ ticket → fetched.key ≡ key
+pub fetched_any : (f : FrontData) (ticket : Ticket) (key : List ℕ) (fetched : FetchedData) → is_waiting f ticket key ≡ true → fetched.ticket ≡ ticket → fetched.key ≡ key
     → FoundStands f fetched.ticket fetched.found → FetchedStands f fetched
-fetched_any f ticket key fetched told legal eviction is t k found =
-    let l = waiting_low f ticket key told legal eviction is in
+fetched_any f ticket key fetched is t k found =
+    let l = waiting_asked f ticket key is in
+    let a = l.asked in
     record {
-      asked = record { before = l.before; later = l.later; caller = l.caller; call = l.call; asked = l.asked ∙ ap (λ (x : Ticket). l.before ++ events.Asked x l.caller l.call ∷ l.later) (sym t) };
+      asked = record { before = a.before; later = a.later; caller = a.caller; call = a.call; asked = a.asked ∙ ap (λ (x : Ticket). a.before ++ events.Asked x a.caller a.call ∷ a.later) (sym t) };
       keyed = l.keyed ∙ ap Some (sym k);
       found = found;
     }
 
 -- a read of the store for whoever waits at a ticket stands
-pub fetched_row : (f : FrontData) (ticket : Ticket) (key : List ℕ) (doc : Doc) (fetched : FetchedData) → (world_of f).told ≡ true → IsLegal f → f.config.eviction ≡ Value → is_waiting f ticket key ≡ true → get (world_of f).docs key ≡ Some doc
+pub fetched_row : (f : FrontData) (ticket : Ticket) (key : List ℕ) (doc : Doc) (fetched : FetchedData) → IsLegal f → is_waiting f ticket key ≡ true → ((world_of f).told ≡ true → get (world_of f).docs key ≡ Some doc)
     → fetched.ticket ≡ ticket → fetched.key ≡ key → fetched.found ≡ founds.Row doc → FetchedStands f fetched
-fetched_row f ticket key doc fetched told legal eviction is found t k r =
-    fetched_any f ticket key fetched told legal eviction is t k
-    (subst (λ (o : FoundData). FoundStands f fetched.ticket o) (sym r) (λ other waits.
-    ap (λ (l : List ℕ). get (world_of f).docs l) (one_key f ticket other key told legal eviction (subst (λ (x : Ticket). is_waiting f x other ≡ true) t waits) is) ∙ found))
+fetched_row f ticket key doc fetched legal is found t k r =
+    fetched_any f ticket key fetched is t k
+    (subst (λ (o : FoundData). FoundStands f fetched.ticket o) (sym r) (λ told other waits.
+    ap (λ (l : List ℕ). get (world_of f).docs l) (one_key f ticket other key legal (subst (λ (x : Ticket). is_waiting f x other ≡ true) t waits) is) ∙ found told))

@@ -22,10 +22,10 @@ use Rattle.ep_drill.specs.declared.part.Part.{Part}
 use Rattle.ep_drill.specs.declared.mark.Marking.{Marking}
 use Rattle.ep_drill.specs.declared.mark.Marking.TheVariants as markings
 use Rattle.ep_drill.specs.Parts.{part_stands, Becomes}
-use Rattle.hold_stage.specs.Went.{noted}
+use Rattle.hold_stage.specs.Went.{with_noted}
 use Rattle.ep_drill.specs.Calls.{AreHome, KeptBut}
 use Rattle.ep_drill.specs.Marks.{marked_by, IsMarked, HasMarked, MarksPart}
-use Rattle.ep_drill.specs.Answers.{IsTaken}
+use Rattle.ep_drill.specs.StoreSide.{IsTaken}
 use Rattle.ep_drill.specs.Fetches.{fetched_data, IsRead}
 use Rattle.ep_drill.specs.Stands.{BatchStands}
 use Rattle.ep_drill.specs.Core.{BenchStands, Ready, Moved, Worked}
@@ -96,7 +96,7 @@ mark_not_desks stripe number (markings.Busy busy) = tt
 
 -- The stage begins at the world `r`, which is the world `a` with other room, and a stripe is told there what is stored.
 module _ (config : Config) (a r s z : WorldData Part) (vb sv zv n m stripe number before after : ℕ) (marking : Marking) (ready : Ready config a) (within : vb < config.vbuckets) (in-it : stripe < config.stripes)
-    (room : r ≡ record a { event_room = n; byte_room = m }) (w : s ≡ r) (at : sv ≡ vb) (fixed : fixed_in z zv ≡ fixed_in s sv) (alone : front_in z zv ≡ noted (front_in s sv) (marked_by stripe number marking))
+    (room : r ≡ record a { event_room = n; byte_room = m }) (w : s ≡ r) (at : sv ≡ vb) (fixed : fixed_in z zv ≡ fixed_in s sv) (alone : front_in z zv ≡ with_noted (front_in s sv) (marked_by stripe number marking))
     (has : HasMarked (front_in z zv) stripe number before after marking) (told : MarksPart (part_in s sv (Stripe stripe)) (part_in z zv (Stripe stripe)) number marking)
     (kept : KeptBut (front_in s sv).config (is_stripe stripe) (part_in s sv) (part_in z zv)) where
   begun : (p : PartName) → part_in s sv p ≡ part_in a vb p
@@ -141,7 +141,7 @@ module _ (config : Config) (a r s z : WorldData Part) (vb sv zv n m stripe numbe
       record {
         left = refl;
         moved = subst (λ (k : ℕ). Moved config vb (marked_by stripe k marking) a z) (sym same) mark_moved;
-        told = subst (λ (k : ℕ). IsMarked (front_in a vb) (front_in z vb) stripe k marking) (sym same) mark_told;
+        says = subst (λ (k : ℕ). IsMarked (front_in a vb) (front_in z vb) stripe k marking) (sym same) mark_told;
         raised = subst (λ (k : ℕ). Becomes (part_in a vb (Stripe stripe)) (part_in z vb (Stripe stripe)) (λ x. record x { mark = k })) (sym same) there;
         kept = kept_at config a s z vb sv zv layout begun at fixed (λ k. is_stripe stripe) kept;
       }
@@ -155,5 +155,5 @@ module _ (config : Config) (a r s z : WorldData Part) (vb sv zv n m stripe numbe
       let event = marked_by stripe number marking in
       let same : front_in r vb ≡ front_in a vb = ap (λ (k : WorldData Part). front_in k vb) room in
       let old : IsLegal (front_in a vb) = subst (λ (f : FrontData). IsLegal f) same (first.legal vb) in
-      let new : IsLegal (noted (front_in a vb) event) = subst (λ (f : FrontData). IsLegal f) mark_moved.front (last.legal vb) in
+      let new : IsLegal (with_noted (front_in a vb) event) = subst (λ (f : FrontData). IsLegal f) mark_moved.front (last.legal vb) in
       subst (λ (f : FrontData). BenchStands f bench) (sym mark_moved.front) (bench_noted (front_in a vb) event bench old new (mark_not_desks stripe number marking) b)

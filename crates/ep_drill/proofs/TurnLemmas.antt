@@ -8,6 +8,7 @@ use Rattle.std.proofs.lemmas.List.{append-nil, append_assoc, map-set}
 use Rattle.std.proofs.lemmas.Option.{slice_get-map, slice_get_past}
 use Rattle.vb_world.proofs.Lists.{map-set_kept}
 use Rattle.ep_drill.proofs.Lists.{set_same}
+use Rattle.ep_model.specs.Limits.{end_of_moments, IsMoment}
 use Rattle.ep_model.specs.declared.config.Config.{Config}
 use Rattle.ep_model.specs.declared.data.CallData.{CallData}
 use Rattle.ep_model.specs.declared.data.EventData.{EventData}
@@ -22,7 +23,7 @@ use Rattle.ep_drill.specs.declared.data.CallerData.{CallerData}
 use Rattle.ep_drill.specs.declared.data.CoreData.{CoreData}
 use Rattle.flat_parts.specs.declared.data.Step.{Step}
 use Rattle.ep_drill.specs.Parts.{part_stands}
-use Rattle.hold_stage.specs.Went.{noted}
+use Rattle.hold_stage.specs.Went.{with_noted}
 use Rattle.ep_drill.specs.Calls.{event_of}
 use Rattle.ep_drill.specs.Callers.{CallerStands, caller_data, loaded_data, next_of, after_step, tried_of}
 use Rattle.ep_drill.specs.Core.{IsOn, Ready, Moved, Rested, Turned, Interleaves, Continues, GoesOn, calls_of, core_data}
@@ -31,7 +32,7 @@ use Rattle.ep_drill.specs.Stepped.IsIdle.{NoCaller, NoCall, NoMoment}
 use Rattle.ep_drill.proofs.CoreLemmas.{core_tried, core_rested, calls_same}
 
 -- a history with an event more, or with none, goes on
-noted_goes_on : (f g : FrontData) (event : Option EventData) → g ≡ noted f event → Continues f g
+noted_goes_on : (f g : FrontData) (event : Option EventData) → g ≡ with_noted f event → Continues f g
 noted_goes_on f g None is = record { more = []; start = ap (λ (k : FrontData). k.start) is; events = ap (λ (k : FrontData). k.events) is ∙ sym (append-nil f.events) }
 noted_goes_on f g (Some event) is = record { more = event ∷ []; start = ap (λ (k : FrontData). k.start) is; events = ap (λ (k : FrontData). k.events) is }
 
@@ -39,7 +40,7 @@ noted_goes_on f g (Some event) is = record { more = event ∷ []; start = ap (λ
 pub moved_goes_on : (config : Config) (vb : ℕ) (event : Option EventData) (old new : WorldData Part) → Moved config vb event old new → (u : ℕ) → Continues (front_in old u) (front_in new u)
 moved_goes_on config vb event old new moved u =
     elim (cases_eq u vb) as (λ _. Continues (front_in old u) (front_in new u)) [
-      | inl is ↦ noted_goes_on (front_in old u) (front_in new u) event (subst (λ (k : ℕ). front_in new k ≡ noted (front_in old k) event) (sym is) moved.front)
+      | inl is ↦ noted_goes_on (front_in old u) (front_in new u) event (subst (λ (k : ℕ). front_in new k ≡ with_noted (front_in old k) event) (sym is) moved.front)
       | inr differ ↦ noted_goes_on (front_in old u) (front_in new u) None (moved.others u differ)
     ]
 
@@ -180,7 +181,7 @@ fronted_at old config w z benches callers place number told now caller after val
       value = value;
       before = subst (λ (k : ℕ). slice_get first.callers k ≡ Some (caller_data caller)) here (get_told caller_data callers place caller at);
       next = ok.1;
-      told = refl;
+      says = refl;
       moved = subst (λ (k : ℕ). Moved config ok.0.0 (event_of k ok.0.1 now caller.prior value step) w z) its ok.2;
       comes = ok.4;
       kept = ok.5;
@@ -193,17 +194,17 @@ not_before : (m n : ℕ) → m ≤ n → n < m → ⊥
 not_before m n late early = absurd (omega arith)
 
 -- a caller that has a call to do at a moment of a step isn't idle
-not_idle : (old : CoreData) (number now : ℕ) (caller : CallerData) → slice_get old.callers number ≡ Some caller → IsSome (next_of caller) → now < 2 ^ 62 → IsIdle old number now → ⊥
+not_idle : (old : CoreData) (number now : ℕ) (caller : CallerData) → slice_get old.callers number ≡ Some caller → IsSome (next_of caller) → IsMoment now → IsIdle old number now → ⊥
 not_idle old number now caller at some early (NoCaller none) = absurd (cc)
 not_idle old number now caller at some early (NoCall other found none) =
     let same : caller ≡ other = cc in
     let gone = subst (λ (o : Option (ℕ × CallData)). IsSome o) (ap next_of same ∙ none) some in
     absurd (cc)
-not_idle old number now caller at some early (NoMoment late) = not_before (2 ^ 62) now late early
+not_idle old number now caller at some early (NoMoment late) = not_before end_of_moments now late early
 
 -- Where memory was wanting for a caller's turn nothing has changed, and there was a call to do.
 pub front_spared : {K : Type 0} {E : Type 0} (old : CoreData) (config : Config) (w z : WorldData Part) (benches : List (Bench K)) (callers : List Caller) (place told now : ℕ) (caller after : Caller) (result : Result (Option Step) E)
-    → core_data config w benches callers ≡ old → place ≡ told → slice_get callers place ≡ Some caller → now < 2 ^ 62
+    → core_data config w benches callers ≡ old → place ≡ told → slice_get callers place ≡ Some caller → IsMoment now
     → OnErr result (Rested config w z × (caller_data after ≡ caller_data caller) × IsSome (next_of (caller_data caller)))
     → OnErr (answer_of result) (Spares old (core_data config z benches (slice_set callers place after)) × (IsIdle old told now → ⊥))
 front_spared old config w z benches callers place told now caller after (Ok None) is here at early err = tt

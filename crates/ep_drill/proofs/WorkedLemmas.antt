@@ -13,30 +13,30 @@ use Rattle.ep_model.specs.declared.event.PartName.{PartName}
 use Rattle.ep_model.specs.declared.event.Ticket.{Ticket}
 use Rattle.flat_parts.specs.declared.data.Step.{Step}
 use Rattle.ep_drill.specs.declared.part.Part.{Part}
-use Rattle.hold_stage.specs.Went.{noted}
+use Rattle.hold_stage.specs.Went.{with_noted}
 use Rattle.ep_drill.specs.Calls.{event_of, AreHome, KeptBut}
 use Rattle.ep_drill.specs.Core.{Ready, Moved, Rested, Worked}
 use Rattle.ep_drill.proofs.WorldLemmas.{moved_by, moved_room, rested_by, room_rests, rested_then}
 
 moved_from : (config : Config) (a r z : WorldData Part) (vb : ℕ) (event : Option EventData) → Moved config vb None a r → vb < config.vbuckets → fixed_in z vb ≡ fixed_in r vb → AreHome r.config (part_in z vb)
-    → front_in z vb ≡ noted (front_in r vb) event → Moved config vb event a z
+    → front_in z vb ≡ with_noted (front_in r vb) event → Moved config vb event a z
 moved_from config a r z vb event before within fixed home front =
     let moved = moved_by config r z vb event before.ready within fixed (subst (λ (k : Config). AreHome k (part_in z vb)) before.ready.layout home) front in
-    record { ready = moved.ready; front = moved.front ∙ ap (λ (f : FrontData). noted f event) before.front; others = λ u differ. moved.others u differ ∙ before.others u differ; apart = λ u differ p. moved.apart u differ p ∙ before.apart u differ p }
+    record { ready = moved.ready; front = moved.front ∙ ap (λ (f : FrontData). with_noted f event) before.front; others = λ u differ. moved.others u differ ∙ before.others u differ; apart = λ u differ p. moved.apart u differ p ∙ before.apart u differ p }
 
 module _ (config : Config) (a r s z : WorldData Part) (vb sv zv : ℕ) (event other : Option EventData) where
-  moved_by_stage : Moved config vb None a r → vb < config.vbuckets → s ≡ r → sv ≡ vb → fixed_in z zv ≡ fixed_in s sv → AreHome (front_in s sv).config (part_in z zv) → front_in z zv ≡ noted (front_in s sv) other → other ≡ event → Moved config vb event a z
+  moved_by_stage : Moved config vb None a r → vb < config.vbuckets → s ≡ r → sv ≡ vb → fixed_in z zv ≡ fixed_in s sv → AreHome (front_in s sv).config (part_in z zv) → front_in z zv ≡ with_noted (front_in s sv) other → other ≡ event → Moved config vb event a z
   moved_by_stage before within w at fixed home front same =
       let v : zv ≡ vb = ap (λ (k : FixedData Part). k.vb) fixed ∙ at in
       moved_from config a r z vb event before within
       (subst (λ (k : WorldData Part). fixed_in z vb ≡ fixed_in k vb) w (subst (λ k. fixed_in z vb ≡ fixed_in s k) at (subst (λ k. fixed_in z k ≡ fixed_in s sv) v fixed)))
       (subst (λ (k : WorldData Part). AreHome k.config (part_in z vb)) w (subst (λ k. AreHome s.config (part_in z k)) v home))
-      (subst (λ (e : Option EventData). front_in z vb ≡ noted (front_in r vb) e) same
-      (subst (λ (k : WorldData Part). front_in z vb ≡ noted (front_in k vb) other) w (subst (λ k. front_in z vb ≡ noted (front_in s k) other) at (subst (λ k. front_in z k ≡ noted (front_in s sv) other) v front))))
+      (subst (λ (e : Option EventData). front_in z vb ≡ with_noted (front_in r vb) e) same
+      (subst (λ (k : WorldData Part). front_in z vb ≡ with_noted (front_in k vb) other) w (subst (λ k. front_in z vb ≡ with_noted (front_in s k) other) at (subst (λ k. front_in z k ≡ with_noted (front_in s sv) other) v front))))
 
   -- A step at a stage that began at the world `r`, which is the world `a` with other room.
   pub moved_with_room : (n m : ℕ) → Ready config a → vb < config.vbuckets → r ≡ record a { event_room = n; byte_room = m } → s ≡ r → sv ≡ vb
-      → fixed_in z zv ≡ fixed_in s sv → AreHome (front_in s sv).config (part_in z zv) → front_in z zv ≡ noted (front_in s sv) other → other ≡ event → Moved config vb event a z
+      → fixed_in z zv ≡ fixed_in s sv → AreHome (front_in s sv).config (part_in z zv) → front_in z zv ≡ with_noted (front_in s sv) other → other ≡ event → Moved config vb event a z
   moved_with_room n m ready within room = moved_by_stage (moved_room config a r vb n m ready room) within
 
 -- A step at a stage that began at the world itself.
@@ -72,7 +72,7 @@ module _ (config : Config) (a r s z : WorldData Part) (vb sv zv : ℕ) where
 -- What a call came to is noted, and where memory was wanting nothing is, and the parts are as they were.
 pub tried_at : {E : Type 0} (config : Config) (a r s z : WorldData Part) (vb sv zv n m number caller now : ℕ) (call spoken : CallData) (prior : Option Ticket) (value : List ℕ) (result : Result Step E)
     → Ready config a → vb < config.vbuckets → r ≡ record a { event_room = n; byte_room = m } → s ≡ r → sv ≡ vb → caller ≡ number → spoken ≡ call → fixed_in z zv ≡ fixed_in s sv → AreHome (front_in s sv).config (part_in z zv)
-    → IfOk result (λ step. front_in z zv ≡ noted (front_in s sv) (event_of caller spoken now prior value step)) → OnErr result (front_in z zv ≡ front_in s sv)
+    → IfOk result (λ step. front_in z zv ≡ with_noted (front_in s sv) (event_of caller spoken now prior value step)) → OnErr result (front_in z zv ≡ front_in s sv)
     → OnErr result ((p : PartName) → there (front_in s sv).config p ≡ true → part_in z zv p ≡ part_in s sv p)
     → (IfOk result (λ step. Moved config vb (event_of number call now prior value step) a z)) × OnErr result (Rested config a z)
 tried_at config a r s z vb sv zv n m number caller now call spoken prior value (Ok step) ready within room w at is same fixed home ok err told =

@@ -19,7 +19,7 @@ use Rattle.vb_world.specs.declared.data.FixedData.{FixedData}
 use Rattle.vb_world.specs.History.{events_of}
 use Rattle.vb_world.specs.World.{slot_of, place_at, place_in, home_of, part_in, is_out_with, has_out, start_of, front_in, fixed_in}
 use Rattle.ep_drill.specs.declared.part.Part.{Part}
-use Rattle.hold_stage.specs.Went.{noted}
+use Rattle.hold_stage.specs.Went.{with_noted}
 use Rattle.ep_drill.specs.Calls.{AreHome}
 use Rattle.ep_drill.specs.Core.{Ready, Moved, Rested}
 
@@ -149,7 +149,7 @@ ready_again config a b vb ready within fixed home =
 
 -- A step at one vBucket that noted this event or none, and gave back all parts.
 pub moved_by : (config : Config) (a b : WorldData Part) (vb : ℕ) (event : Option EventData)
-    → Ready config a → vb < config.vbuckets → fixed_in b vb ≡ fixed_in a vb → AreHome config (part_in b vb) → front_in b vb ≡ noted (front_in a vb) event → Moved config vb event a b
+    → Ready config a → vb < config.vbuckets → fixed_in b vb ≡ fixed_in a vb → AreHome config (part_in b vb) → front_in b vb ≡ with_noted (front_in a vb) event → Moved config vb event a b
 moved_by config a b vb event ready within fixed home front =
     record { ready = ready_again config a b vb ready within fixed home; front = front; others = λ u differ. front_same a b vb u fixed differ; apart = λ u differ p. part_same a b vb u fixed differ p }
 

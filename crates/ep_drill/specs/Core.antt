@@ -24,7 +24,7 @@ use Rattle.ep_model.specs.declared.event.PartName.{PartName}
 use Rattle.ep_drill.specs.Parts.{part_stands}
 use Rattle.flat_parts.specs.declared.data.Step.{Step}
 use Rattle.ep_drill.specs.declared.owned.Caller.{Caller}
-use Rattle.hold_stage.specs.Went.{noted}
+use Rattle.hold_stage.specs.Went.{with_noted}
 use Rattle.ep_drill.specs.Calls.{event_of, AreHome, KeptBut}
 use Rattle.ep_drill.specs.Callers.{CallerStands, caller_data, next_of, after_step}
 use Rattle.ep_drill.specs.Fetches.{fetched_data}
@@ -34,10 +34,11 @@ use Rattle.ep_drill.specs.Tries.{ComesTo}
 abbrev pub bench_data : {K : Type 0} → Bench K → BenchData
 bench_data bench = record { desk = bench.desk; batch = bench.batch; reads = map (option_map fetched_data) bench.reads.items }
 
--- A vBucket's desk, batch and reads stand for its history, and its store tells what it holds. All that its store is known to hold is noted, failed reads
+-- A vBucket's desk, batch and reads stand for its history, whose start is told, and its store tells what it holds. All that its store is known to hold is noted, failed reads
 -- have numbers of their own, and no batch is left over once a commit failed.
 pub record BenchStands (f : FrontData) (bench : BenchData) : Type 0 where
   pub opened : (world_of f).opened ≡ true
+  pub told : (world_of f).told ≡ true
   pub desk : DeskStands f bench.desk
   pub tells : IsSome bench.desk.keeper.content
   pub known : bench.desk.stored ≡ bench.desk.noted
@@ -60,7 +61,7 @@ pub record Ready (config : Config) (world : WorldData Part) : Type 0 where
 -- they were.
 pub record Moved (config : Config) (vb : ℕ) (event : Option EventData) (old new : WorldData Part) : Type 0 where
   pub ready : Ready config new
-  pub front : front_in new vb ≡ noted (front_in old vb) event
+  pub front : front_in new vb ≡ with_noted (front_in old vb) event
   pub others : (u : ℕ) → u ≢ vb → front_in new u ≡ front_in old u
   pub apart : (u : ℕ) → u ≢ vb → (p : PartName) → part_in new u p ≡ part_in old u p
 

@@ -1,5 +1,5 @@
 -- What reads of the store find, and how they end.
-use Rattle.std.specs.Prelude.{◌≡◌, ℕ, ◌+◌, ◌⊎◌, Bool, true, false, List, Option, Some, None, IsSome, Vec}
+use Rattle.std.specs.Prelude.{◌≡◌, ℕ, ◌+◌, ◌-◌, ◌^◌, ◌⊎◌, Bool, true, false, List, Option, Some, None, IsSome, Vec}
 use Rattle.std.specs.FinMap as map
 use Rattle.std.specs.declared.alloc.Global.{Global}
 use Rattle.ep_model.specs.declared.call.Meta.{Meta}
@@ -11,7 +11,7 @@ use Rattle.ep_model.specs.declared.event.Ticket.{Ticket}
 use Rattle.ep_model.specs.Front.{with_event}
 use Rattle.kv_keeper.specs.declared.data.DeskData.{DeskData}
 use Rattle.kv_keeper.specs.Content.{Content}
-use Rattle.kv_keeper.specs.Desk.{HasFailedRead}
+use Rattle.kv_keeper.specs.Desk.{OneReadFailed}
 use Rattle.ep_drill.specs.declared.data.FetchedData.{FetchedData}
 use Rattle.ep_drill.specs.declared.data.FoundData.{FoundData}
 use Rattle.ep_drill.specs.declared.data.FoundData.TheVariants as founds
@@ -72,13 +72,26 @@ settles x number outcome = record x { places = settled x.places number outcome }
 abbrev pub Reads : DeskData → DeskData → FoundData → Type 0
 Reads old new (founds.Row doc) = new ≡ old
 Reads old new founds.Absent = new ≡ old
-Reads old new (founds.Failed fault) = (fault ≡ old.read_faults + 1) × HasFailedRead old new
+Reads old new (founds.Failed fault) = (fault ≡ old.read_faults + 1) × OneReadFailed old new
 Reads old new founds.NoMemory = new ≡ old
+
+-- Memory was wanting for a read: the store's reads may want it, so many of them failed that none is counted any more, or the store
+-- has a document of the key, of which a copy was to be made.
+abbrev pub IsWantingRead : DeskData → List ℕ → Type 0
+IsWantingRead desk key =
+    (desk.keeper.ample ≡ false) ⊎ (desk.read_faults ≡ 2 ^ 64 - 1) ⊎ ((c : Content) → desk.keeper.content ≡ Some c → IsSome (map.get c.docs key))
+
+-- and nothing else answers so
+abbrev pub WantsRead : DeskData → List ℕ → FoundData → Type 0
+WantsRead desk key (founds.Row doc) = Unit {0}
+WantsRead desk key founds.Absent = Unit {0}
+WantsRead desk key (founds.Failed fault) = Unit {0}
+WantsRead desk key founds.NoMemory = IsWantingRead desk key
 
 -- a read for whoever waits in the stripe stands; none is made where nobody waits
 abbrev pub IsRead : FrontData → ℕ → DeskData → DeskData → Option Fetched → Type 0
 IsRead f stripe old new None = new ≡ old
-IsRead f stripe old new (Some fetched) = FetchedStands f (fetched_data fetched) × (fetched.ticket.stripe ≡ stripe) × Reads old new (found_data fetched.found)
+IsRead f stripe old new (Some fetched) = FetchedStands f (fetched_data fetched) × (fetched.ticket.stripe ≡ stripe) × Reads old new (found_data fetched.found) × WantsRead old fetched.key.items (found_data fetched.found)
 
 -- the read is that of the oldest place that waits in a stripe; none is made where none waits
 abbrev pub IsReadOf : Option PlaceData → Option Fetched → Type 0

@@ -1,9 +1,9 @@
 pub mod Stands
-pub mod Keeps
+pub mod Untouched
 pub mod Parts
 pub mod Calls
 pub mod Marks
-pub mod Answers
+pub mod StoreSide
 pub mod Fetches
 pub mod Callers
 pub mod Tries

@@ -35,7 +35,7 @@ abbrev pub empty_stripe : Bool → ℕ → StripeData
 empty_stripe opened stripe = record { index = stripe; nodes = []; mark = 0; state = Active; opened = opened; places = []; next = 1 }
 
 abbrev pub empty_queue : Bool → QueueData
-empty_queue opened = record { items = []; high = 0; maxcas = 0; persisted = 0; state = Active; opened = opened }
+empty_queue opened = record { items = []; high = 0; maxcas = 0; persisted = 0; state = Active; opened = opened; uuid = 0 }
 
 -- the first so many stripes of a vBucket that hasn't opened
 abbrev pub bare_stripes : ℕ → List Part

@@ -11,7 +11,8 @@ use Rattle.flat_parts.specs.declared.data.StripeData.{StripeData}
 use Rattle.ep_drill.specs.declared.part.Part.{Part}
 use Rattle.ep_drill.specs.declared.part.Part.TheVariants as parts
 use Rattle.ep_drill.specs.Stands.{StripeStands, QueueStands}
-use Rattle.ep_drill.specs.Keeps.{stripe_keeps, queue_keeps, desk_keeps}
+use Rattle.hold_stage.proofs.ApartLemmas.{desk_keeps}
+use Rattle.ep_drill.specs.Untouched.{stripe_keeps, queue_keeps}
 
 abbrev pub part_stands : PartName → FrontData → Part → Type 0
 part_stands (Stripe stripe) f (parts.Stripe x) = StripeStands f stripe x

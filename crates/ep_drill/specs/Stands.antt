@@ -1,5 +1,5 @@
 -- What the parts are to a history.
-use Rattle.std.specs.Prelude.{◌≡◌, ◌⊎◌, ℕ, ◌≤◌, ◌<◌, true, false, nat_lt, List, [], ◌∷◌, ◌++◌, Option, Some, None, IfSome}
+use Rattle.std.specs.Prelude.{◌≡◌, ◌⊎◌, ℕ, ◌≤◌, ◌<◌, true, false, nat_lt, List, [], ◌∷◌, ◌++◌, Option, Some, None, IsSome, IfSome}
 use Rattle.std.specs.List.{AllByRecursion}
 use Rattle.std.specs.FinMap as map
 use Rattle.ep_model.specs.declared.event.Ticket.{Ticket}
@@ -7,14 +7,14 @@ use Rattle.ep_model.specs.declared.data.CallData.{CallData}
 use Rattle.ep_model.specs.declared.data.EventData.{EventData}
 use Rattle.ep_model.specs.declared.data.EventData.TheVariants as events
 use Rattle.ep_model.specs.declared.data.FrontData.{FrontData}
-use Rattle.ep_model.specs.World.{Doc, meta_of}
+use Rattle.ep_model.specs.World.{Doc, meta_of, uuid_of}
 use Rattle.ep_model.specs.Stripes.{stripe_of}
 use Rattle.ep_model.specs.History.{upto}
 use Rattle.ep_model.specs.Calls.{key_of}
 use Rattle.ep_model.specs.Front.{begun, world_of, marked}
-use Rattle.ep_model.specs.Legal.{IsSilent, IsUnused, IsBelow, IsNoFault, HasAsked, HasFailed}
+use Rattle.ep_model.specs.Legal.{IsSilent, IsUnused, IsBelow, IsNoFault, HasAsked, HasFailedRead}
 use Rattle.ep_model.specs.Mutations.{mutations, above}
-use Rattle.hold_stage.specs.Waits.{is_waiting}
+use Rattle.hold_stage.specs.Waits.{is_waiting, IsNoRead}
 use Rattle.flat_parts.specs.declared.data.NodeData.{NodeData}
 use Rattle.flat_parts.specs.declared.data.Outcome.{Outcome}
 use Rattle.flat_parts.specs.declared.data.Outcome.TheVariants.{Waiting, Merged, Absent, Failed, NoMemory}
@@ -49,11 +49,6 @@ abbrev pub IsGone : ℕ → Option Doc → Type 0
 IsGone mark None = Unit {0}
 IsGone mark (Some doc) = (doc.seqno ≤ mark) × (doc.deleted ≡ true)
 
--- the event is no failed read for the ticket
-abbrev pub IsNoRead : Ticket → EventData → Type 0
-IsNoRead ticket (events.ReadFailed other fault) = (other ≡ ticket) → ⊥
-IsNoRead ticket event = Unit {0}
-
 -- the key has no live document to come
 abbrev pub IsAbsent : Option Doc → Type 0
 IsAbsent None = Unit {0}
@@ -64,7 +59,7 @@ abbrev pub OutcomeStands : FrontData → Ticket → List ℕ → Outcome → Typ
 OutcomeStands f ticket key Waiting = AllByRecursion (IsNoRead ticket) f.events
 OutcomeStands f ticket key Merged = Unit {0}
 OutcomeStands f ticket key Absent = IsAbsent (map.get (world_of f).docs key)
-OutcomeStands f ticket key (Failed fault) = HasFailed f.events ticket fault
+OutcomeStands f ticket key (Failed fault) = HasFailedRead f.events ticket fault
 OutcomeStands f ticket key NoMemory = Unit {0}
 
 abbrev pub ticket_of : ℕ → ℕ → Ticket
@@ -93,15 +88,13 @@ pub record StripeStands (f : FrontData) (stripe : ℕ) (x : StripeData) : Type 0
 
 -- a queue stands for a history: it holds all mutations above the persisted number, so that nothing that isn't stored is lost
 pub record QueueStands (f : FrontData) (q : QueueData) : Type 0 where
-  pub items : q.items ≡ above (world_of f).persisted (mutations (begun f) f.events)
+  pub items : (world_of f).told ≡ true → q.items ≡ above (world_of f).persisted (mutations (begun f) f.events)
   pub high : q.high ≡ (world_of f).high
   pub maxcas : q.maxcas ≡ (world_of f).maxcas
   pub persisted : q.persisted ≡ (world_of f).persisted
   pub state : q.state ≡ (world_of f).state
   pub opened : q.opened ≡ (world_of f).opened
-  -- a flat queue has an empty failover table
-  pub table : (world_of f).failovers ≡ []
-  pub is_told : (world_of f).told ≡ true
+  pub uuid : q.uuid ≡ uuid_of (world_of f).failovers
 
 -- The caller's call asked at this ticket before, and no call of the caller was answered since.
 pub record PriorStands (f : FrontData) (caller : ℕ) (call : CallData) (ticket : Ticket) : Type 0 where
@@ -119,48 +112,49 @@ abbrev pub IsFaultWithin : ℕ → EventData → Type 0
 IsFaultWithin faults (events.ReadFailed ticket fault) = (1 ≤ fault) × (fault ≤ faults)
 IsFaultWithin faults event = Unit {0}
 
--- a store holds what the history had put at one of its numbers
+-- a store holds what the history had put at one of its numbers, as far as its documents are known
 pub record HoldsAt (f : FrontData) (content : Content) (number : ℕ) : Type 0 where
-  pub docs : content.docs ≡ (upto (begun f) f.events number).docs
+  pub docs : (world_of f).told ≡ true → content.docs ≡ (upto (begun f) f.events number).docs
   pub version : content.version ≡ 1
   pub high : content.high ≡ number
   pub maxcas : content.maxcas ≡ (upto (begun f) f.events number).maxcas
 
 -- so does one that tells what it holds
-abbrev pub HoldsIfTold : FrontData → Option Content → ℕ → Type 0
-HoldsIfTold f content number = IfSome content (λ c. HoldsAt f c number)
+abbrev pub HoldsIfTelling : FrontData → Option Content → ℕ → Type 0
+HoldsIfTelling f content number = IfSome content (λ c. HoldsAt f c number)
 
 -- Where a commit failed, one of the two contents that may be the true one is so at the number up to which the store was known
 -- before, and the other at the one in doubt.
 abbrev pub ContentStands : FrontData → KeeperData → ℕ → Option ℕ → Type 0
-ContentStands f keeper stored None = HoldsIfTold f keeper.content stored
+ContentStands f keeper stored None = HoldsIfTelling f keeper.content stored
 ContentStands f keeper stored (Some doubt) =
     (stored ≤ doubt) × (doubt ≤ (world_of f).high)
-    × ((HoldsIfTold f keeper.content stored × HoldsIfTold f keeper.second doubt) ⊎ (HoldsIfTold f keeper.content doubt × HoldsIfTold f keeper.second stored))
+    × ((HoldsIfTelling f keeper.content stored × HoldsIfTelling f keeper.second doubt) ⊎ (HoldsIfTelling f keeper.content doubt × HoldsIfTelling f keeper.second stored))
 
--- A desk stands for a history: its store holds what the history had put at a number that is not below the persisted one.
+-- A desk stands for a history: its store holds what the history had put at a number that is not below the persisted one. A
+-- start is told by a store that tells what it holds.
 pub record DeskStands (f : FrontData) (desk : DeskData) : Type 0 where
   pub low : (world_of f).persisted ≤ desk.stored
   pub top : desk.stored ≤ (world_of f).high
   pub holds : ContentStands f desk.keeper desk.stored desk.doubt
   pub persisted : desk.noted ≡ (world_of f).persisted
-  pub told : AllByRecursion (IsFaultWithin desk.read_faults) f.events
-  pub is_told : (world_of f).told ≡ true
+  pub faults : AllByRecursion (IsFaultWithin desk.read_faults) f.events
+  pub tells : (world_of f).told ≡ true → IsSome desk.keeper.content
 
 -- A batch stands between its taking and its commit: laid over what the store holds it gives what the history had put at the
--- batch's number.
+-- batch's number, as far as documents are known.
 pub record BatchStands (f : FrontData) (stored : ℕ) (batch : BatchData) : Type 0 where
-  pub opened : (world_of f).opened ≡ true
   pub above : (world_of f).persisted < batch.to
   pub low : stored ≤ batch.to
   pub top : batch.to ≤ (world_of f).high
-  pub docs : laid batch.rows (upto (begun f) f.events stored).docs ≡ (upto (begun f) f.events batch.to).docs
+  pub docs : (world_of f).told ≡ true → laid batch.rows (upto (begun f) f.events stored).docs ≡ (upto (begun f) f.events batch.to).docs
   pub maxcas : batch.maxcas ≡ (upto (begun f) f.events batch.to).maxcas
 
--- What was read is the document of whoever still waits at the ticket, and a failure is told by no event yet.
+-- What was read is the document of whoever still waits at the ticket, as far as documents are known, and a failure is told by no
+-- event yet.
 abbrev pub FoundStands : FrontData → Ticket → FoundData → Type 0
-FoundStands f ticket (founds.Row doc) = (key : List ℕ) → is_waiting f ticket key ≡ true → map.get (world_of f).docs key ≡ Some doc
-FoundStands f ticket founds.Absent = (key : List ℕ) → is_waiting f ticket key ≡ true → IsAbsent (map.get (world_of f).docs key)
+FoundStands f ticket (founds.Row doc) = (world_of f).told ≡ true → (key : List ℕ) → is_waiting f ticket key ≡ true → map.get (world_of f).docs key ≡ Some doc
+FoundStands f ticket founds.Absent = (world_of f).told ≡ true → (key : List ℕ) → is_waiting f ticket key ≡ true → IsAbsent (map.get (world_of f).docs key)
 FoundStands f ticket (founds.Failed fault) = AllByRecursion (IsNoFault fault) f.events
 FoundStands f ticket founds.NoMemory = Unit {0}
 

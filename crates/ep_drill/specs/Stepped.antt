@@ -1,5 +1,6 @@
 -- What a step of a core answers and does, and what lists of steps do.
 use Rattle.std.specs.Prelude.{◌≡◌, ◌⊎◌, ℕ, ◌^◌, ◌<◌, ◌≤◌, List, [], ◌∷◌, take, slice_get, slice_set, Option, Some, None, IsSome, Result, Ok, Err}
+use Rattle.ep_model.specs.Limits.{end_of_moments}
 use Rattle.ep_model.specs.declared.data.CallData.{CallData}
 use Rattle.ep_model.specs.declared.event.PartName.TheVariants.{Stripe}
 use Rattle.hold_stage.specs.Touches.{is_stripe, touches_call}
@@ -16,13 +17,13 @@ use Rattle.ep_drill.specs.declared.data.CoreData.{CoreData}
 use Rattle.flat_parts.specs.declared.data.Step.{Step}
 use Rattle.ep_drill.specs.declared.part.Part.{Part}
 use Rattle.ep_drill.specs.declared.store.Paged.{Paged}
-use Rattle.ep_drill.specs.Answers.{IsPaged}
+use Rattle.ep_drill.specs.StoreSide.{IsPaged}
 use Rattle.ep_drill.specs.Calls.{event_of, KeptBut}
 use Rattle.ep_drill.specs.Callers.{next_of, after_step, tried_of}
 use Rattle.ep_drill.specs.Fetches.{HasWaiting}
 use Rattle.ep_drill.specs.Tries.{ComesTo}
 use Rattle.ep_drill.specs.Core.{Moved, Rested, Interleaves, GoesOn}
-use Rattle.ep_drill.specs.Works.{Takes, Commits, Marks, Fetches, Merges}
+use Rattle.ep_drill.specs.Works.{TakesAt, CommitsAt, MarksAt, FetchesAt, MergesAt}
 
 -- A caller's next call was tried, with this answer, and its event is noted where it has one. Nothing else changed.
 pub record WasTried (old new : CoreData) (number now : ℕ) (tried : Tried) : Type 0 where
@@ -32,7 +33,7 @@ pub record WasTried (old new : CoreData) (number now : ℕ) (tried : Tried) : Ty
   pub value : List ℕ
   pub before : slice_get old.callers number ≡ Some caller
   pub next : next_of caller ≡ Some call
-  pub told : tried ≡ tried_of step
+  pub says : tried ≡ tried_of step
   pub moved : Moved old.config call.0 (event_of number call.1 now caller.prior value step) old.world new.world
   pub comes : ComesTo old.config (part_in old.world call.0) (part_in new.world call.0) call.1 now caller.prior step
   pub kept : KeptBut old.config (touches_call old.config call.1) (part_in old.world call.0) (part_in new.world call.0)
@@ -42,7 +43,7 @@ pub record WasTried (old new : CoreData) (number now : ℕ) (tried : Tried) : Ty
 pub data IsIdle (old : CoreData) (number now : ℕ) : Type 0 where
   NoCaller : slice_get old.callers number ≡ None → IsIdle old number now
   NoCall : (caller : CallerData) → slice_get old.callers number ≡ Some caller → next_of caller ≡ None → IsIdle old number now
-  NoMoment : 2 ^ 62 ≤ now → IsIdle old number now
+  NoMoment : end_of_moments ≤ now → IsIdle old number now
 
 -- what a caller's turn answers
 abbrev pub IsFronted : CoreData → CoreData → ℕ → ℕ → Answer → Type 0
@@ -102,11 +103,11 @@ IsPagedAt old new vb stripe (answers.Paged paged) = WasPaged old new vb stripe p
 abbrev pub Stepped : CoreData → CoreData → StepChoice → Answer → Type 0
 Stepped old new (choices.Warm vb) answer = (answer ≡ answers.Nothing) × (new ≡ old)
 Stepped old new (choices.Front caller now) answer = IsFronted old new caller now answer
-Stepped old new (choices.TakeBatch vb) answer = IsBenched old new vb (IsNoBucket old vb) (Takes old.config vb) answer
-Stepped old new (choices.Commit vb) answer = IsBenched old new vb (IsNoBucket old vb) (Commits old.config vb) answer
-Stepped old new (choices.Mark vb stripe) answer = IsBenched old new vb (IsNowhere old vb stripe) (Marks old.config vb stripe) answer
-Stepped old new (choices.Read vb stripe) answer = IsBenched old new vb (IsNowhere old vb stripe) (Fetches old.config vb stripe) answer
-Stepped old new (choices.Merge vb stripe) answer = IsBenched old new vb (IsNowhere old vb stripe) (Merges old.config vb stripe) answer
+Stepped old new (choices.TakeBatch vb) answer = IsBenched old new vb (IsNoBucket old vb) (TakesAt old.config vb) answer
+Stepped old new (choices.Commit vb) answer = IsBenched old new vb (IsNoBucket old vb) (CommitsAt old.config vb) answer
+Stepped old new (choices.Mark vb stripe) answer = IsBenched old new vb (IsNowhere old vb stripe) (MarksAt old.config vb stripe) answer
+Stepped old new (choices.Read vb stripe) answer = IsBenched old new vb (IsNowhere old vb stripe) (FetchesAt old.config vb stripe) answer
+Stepped old new (choices.Merge vb stripe) answer = IsBenched old new vb (IsNowhere old vb stripe) (MergesAt old.config vb stripe) answer
 Stepped old new (choices.Page vb stripe) answer = IsPagedAt old new vb stripe answer
 Stepped old new (choices.Expire vb stripe now) answer = (answer ≡ answers.Nothing) × (new ≡ old)
 

@@ -17,14 +17,14 @@ use Rattle.ep_drill.specs.declared.part.Part.TheVariants as parts
 use Rattle.flat_parts.specs.Steps.{read_step, write_step}
 
 -- a Get, by its key's stripe
-pub record Gets (stripes : ℕ) (old new : PartName → Option Part) (prior : Option Ticket) (key : List ℕ) (now : ℕ) (step : Step) : Type 0 where
+pub record ComesToGet (stripes : ℕ) (old new : PartName → Option Part) (prior : Option Ticket) (key : List ℕ) (now : ℕ) (step : Step) : Type 0 where
   pub stripe : StripeData
   pub before : old (Stripe (stripe_of key stripes)) ≡ Some (parts.Stripe stripe)
   pub comes : step ≡ (read_step stripe prior key now).step
   pub behind : new (Stripe (stripe_of key stripes)) ≡ Some (parts.Stripe (read_step stripe prior key now).stripe)
 
 -- a Set, by its key's stripe and the queue
-pub record Sets (stripes fit : ℕ) (old new : PartName → Option Part) (prior : Option Ticket) (key value : List ℕ) (flags expiration cas now : ℕ) (step : Step) : Type 0 where
+pub record ComesToSet (stripes fit : ℕ) (old new : PartName → Option Part) (prior : Option Ticket) (key value : List ℕ) (flags expiration cas now : ℕ) (step : Step) : Type 0 where
   pub stripe : StripeData
   pub queue : QueueData
   pub before : old (Stripe (stripe_of key stripes)) ≡ Some (parts.Stripe stripe)
@@ -35,8 +35,8 @@ pub record Sets (stripes fit : ℕ) (old new : PartName → Option Part) (prior 
 
 -- each of the calls that there are so far
 abbrev pub ComesTo : Config → (PartName → Option Part) → (PartName → Option Part) → CallData → ℕ → Option Ticket → Step → Type 0
-ComesTo config old new (calls.Get key) now prior step = Gets config.stripes old new prior key now step
-ComesTo config old new (calls.Store SetKind key value flags expiration cas) now prior step = Sets config.stripes (fit_of config) old new prior key value flags expiration cas now step
+ComesTo config old new (calls.Get key) now prior step = ComesToGet config.stripes old new prior key now step
+ComesTo config old new (calls.Store SetKind key value flags expiration cas) now prior step = ComesToSet config.stripes (fit_of config) old new prior key value flags expiration cas now step
 ComesTo config old new (calls.Store AddKind key value flags expiration cas) now prior step = ⊥
 ComesTo config old new (calls.Store ReplaceKind key value flags expiration cas) now prior step = ⊥
 ComesTo config old new (calls.Join front key value cas) now prior step = ⊥

@@ -25,7 +25,7 @@ use Rattle.ep_drill.specs.declared.part.Part.{Part}
 use Rattle.ep_drill.specs.declared.store.Flushed.{Flushed}
 use Rattle.ep_drill.specs.declared.store.Flushed.TheVariants as flushes
 use Rattle.ep_drill.specs.declared.mark.Marking.{Marking}
-use Rattle.ep_drill.specs.Answers.{IsTaken, IsFlushed}
+use Rattle.ep_drill.specs.StoreSide.{IsTaken, IsFlushed}
 use Rattle.ep_drill.specs.Fetches.{fetched_data, IsMerged, IsRead, ReadsOldest}
 use Rattle.ep_drill.specs.Calls.{KeptBut}
 use Rattle.ep_drill.specs.Marks.{marked_by, IsMarked}
@@ -55,17 +55,17 @@ pub record WasDropped (config : Config) (vb : ℕ) (old new : WorldData Part) (b
   pub kept : (p : PartName) → part_in new vb p ≡ part_in old vb p
 
 -- no batch is taken where it is in doubt what the store holds
-abbrev pub Takes : Config → ℕ → Answer → WorldData Part → WorldData Part → BenchData → BenchData → Type 0
-Takes config vb answers.Nothing old new bench after = ⊥
-Takes config vb (answers.Tried tried) old new bench after = ⊥
-Takes config vb (answers.Took number) old new bench after = WasTaken config vb number old new bench after
-Takes config vb (answers.Flushed (flushes.Stored number)) old new bench after = ⊥
-Takes config vb (answers.Flushed flushes.Failed) old new bench after = IsLeft old new bench after × (bench.desk.doubt ≡ None → ⊥)
-Takes config vb (answers.Flushed flushes.NoMemory) old new bench after = WasDropped config vb old new bench after
-Takes config vb (answers.Marked marking) old new bench after = ⊥
-Takes config vb (answers.Read waited) old new bench after = ⊥
-Takes config vb (answers.Merged merging) old new bench after = ⊥
-Takes config vb (answers.Paged paged) old new bench after = ⊥
+abbrev pub TakesAt : Config → ℕ → Answer → WorldData Part → WorldData Part → BenchData → BenchData → Type 0
+TakesAt config vb answers.Nothing old new bench after = ⊥
+TakesAt config vb (answers.Tried tried) old new bench after = ⊥
+TakesAt config vb (answers.Took number) old new bench after = WasTaken config vb number old new bench after
+TakesAt config vb (answers.Flushed (flushes.Stored number)) old new bench after = ⊥
+TakesAt config vb (answers.Flushed flushes.Failed) old new bench after = IsLeft old new bench after × (bench.desk.doubt ≡ None → ⊥)
+TakesAt config vb (answers.Flushed flushes.NoMemory) old new bench after = WasDropped config vb old new bench after
+TakesAt config vb (answers.Marked marking) old new bench after = ⊥
+TakesAt config vb (answers.Read waited) old new bench after = ⊥
+TakesAt config vb (answers.Merged merging) old new bench after = ⊥
+TakesAt config vb (answers.Paged paged) old new bench after = ⊥
 
 -- and what is noted
 abbrev pub persisted_by : BatchData → Flushed → Option EventData
@@ -85,33 +85,33 @@ pub record WasFlushed (config : Config) (vb : ℕ) (flushed : Flushed) (old new 
   pub done : IsFlushed (front_in old vb) (front_in new vb) bench.desk desk batch flushed
 
 -- nothing is committed exactly where there is no batch
-abbrev pub Commits : Config → ℕ → Answer → WorldData Part → WorldData Part → BenchData → BenchData → Type 0
-Commits config vb answers.Nothing old new bench after = IsLeft old new bench after × (bench.batch ≡ None)
-Commits config vb (answers.Tried tried) old new bench after = ⊥
-Commits config vb (answers.Took number) old new bench after = ⊥
-Commits config vb (answers.Flushed flushed) old new bench after = WasFlushed config vb flushed old new bench after
-Commits config vb (answers.Marked marking) old new bench after = ⊥
-Commits config vb (answers.Read waited) old new bench after = ⊥
-Commits config vb (answers.Merged merging) old new bench after = ⊥
-Commits config vb (answers.Paged paged) old new bench after = ⊥
+abbrev pub CommitsAt : Config → ℕ → Answer → WorldData Part → WorldData Part → BenchData → BenchData → Type 0
+CommitsAt config vb answers.Nothing old new bench after = IsLeft old new bench after × (bench.batch ≡ None)
+CommitsAt config vb (answers.Tried tried) old new bench after = ⊥
+CommitsAt config vb (answers.Took number) old new bench after = ⊥
+CommitsAt config vb (answers.Flushed flushed) old new bench after = WasFlushed config vb flushed old new bench after
+CommitsAt config vb (answers.Marked marking) old new bench after = ⊥
+CommitsAt config vb (answers.Read waited) old new bench after = ⊥
+CommitsAt config vb (answers.Merged merging) old new bench after = ⊥
+CommitsAt config vb (answers.Paged paged) old new bench after = ⊥
 
 -- The stripe was told what is stored.
 pub record WasMarked (config : Config) (vb stripe : ℕ) (marking : Marking) (old new : WorldData Part) (bench after : BenchData) : Type 0 where
   pub left : after ≡ bench
   pub moved : Moved config vb (marked_by stripe bench.desk.noted marking) old new
-  pub told : IsMarked (front_in old vb) (front_in new vb) stripe bench.desk.noted marking
+  pub says : IsMarked (front_in old vb) (front_in new vb) stripe bench.desk.noted marking
   pub raised : Becomes (part_in old vb (Stripe stripe)) (part_in new vb (Stripe stripe)) (λ x. record x { mark = bench.desk.noted })
   pub kept : KeptBut config (is_stripe stripe) (part_in old vb) (part_in new vb)
 
-abbrev pub Marks : Config → ℕ → ℕ → Answer → WorldData Part → WorldData Part → BenchData → BenchData → Type 0
-Marks config vb stripe answers.Nothing old new bench after = ⊥
-Marks config vb stripe (answers.Tried tried) old new bench after = ⊥
-Marks config vb stripe (answers.Took number) old new bench after = ⊥
-Marks config vb stripe (answers.Flushed flushed) old new bench after = ⊥
-Marks config vb stripe (answers.Marked marking) old new bench after = WasMarked config vb stripe marking old new bench after
-Marks config vb stripe (answers.Read waited) old new bench after = ⊥
-Marks config vb stripe (answers.Merged merging) old new bench after = ⊥
-Marks config vb stripe (answers.Paged paged) old new bench after = ⊥
+abbrev pub MarksAt : Config → ℕ → ℕ → Answer → WorldData Part → WorldData Part → BenchData → BenchData → Type 0
+MarksAt config vb stripe answers.Nothing old new bench after = ⊥
+MarksAt config vb stripe (answers.Tried tried) old new bench after = ⊥
+MarksAt config vb stripe (answers.Took number) old new bench after = ⊥
+MarksAt config vb stripe (answers.Flushed flushed) old new bench after = ⊥
+MarksAt config vb stripe (answers.Marked marking) old new bench after = WasMarked config vb stripe marking old new bench after
+MarksAt config vb stripe (answers.Read waited) old new bench after = ⊥
+MarksAt config vb stripe (answers.Merged merging) old new bench after = ⊥
+MarksAt config vb stripe (answers.Paged paged) old new bench after = ⊥
 
 -- the reads of the stripes, where this was read for one of them or nothing was
 abbrev pub reads_after : List (Option FetchedData) → ℕ → Option Fetched → List (Option FetchedData)
@@ -131,15 +131,15 @@ pub record WasFetched (config : Config) (vb stripe : ℕ) (waited : Bool) (old n
   pub stands : IsRead (front_in old vb) stripe bench.desk desk read
 
 -- nothing is read where it is in doubt what the store holds
-abbrev pub Fetches : Config → ℕ → ℕ → Answer → WorldData Part → WorldData Part → BenchData → BenchData → Type 0
-Fetches config vb stripe answers.Nothing old new bench after = IsLeft old new bench after × (bench.desk.doubt ≡ None → ⊥)
-Fetches config vb stripe (answers.Tried tried) old new bench after = ⊥
-Fetches config vb stripe (answers.Took number) old new bench after = ⊥
-Fetches config vb stripe (answers.Flushed flushed) old new bench after = ⊥
-Fetches config vb stripe (answers.Marked marking) old new bench after = ⊥
-Fetches config vb stripe (answers.Read waited) old new bench after = WasFetched config vb stripe waited old new bench after
-Fetches config vb stripe (answers.Merged merging) old new bench after = ⊥
-Fetches config vb stripe (answers.Paged paged) old new bench after = ⊥
+abbrev pub FetchesAt : Config → ℕ → ℕ → Answer → WorldData Part → WorldData Part → BenchData → BenchData → Type 0
+FetchesAt config vb stripe answers.Nothing old new bench after = IsLeft old new bench after × (bench.desk.doubt ≡ None → ⊥)
+FetchesAt config vb stripe (answers.Tried tried) old new bench after = ⊥
+FetchesAt config vb stripe (answers.Took number) old new bench after = ⊥
+FetchesAt config vb stripe (answers.Flushed flushed) old new bench after = ⊥
+FetchesAt config vb stripe (answers.Marked marking) old new bench after = ⊥
+FetchesAt config vb stripe (answers.Read waited) old new bench after = WasFetched config vb stripe waited old new bench after
+FetchesAt config vb stripe (answers.Merged merging) old new bench after = ⊥
+FetchesAt config vb stripe (answers.Paged paged) old new bench after = ⊥
 
 -- what is noted of a read that failed
 abbrev pub failure_of : Ticket → FoundData → Option EventData
@@ -167,12 +167,12 @@ pub record WasMerged (config : Config) (vb stripe : ℕ) (merging : Merging) (ol
   pub done : IsMerged (front_in old vb) (front_in new vb) (part_in old vb (Stripe fetched.ticket.stripe)) (part_in new vb (Stripe fetched.ticket.stripe)) fetched merging
 
 -- nothing is merged exactly where the stripe has no read
-abbrev pub Merges : Config → ℕ → ℕ → Answer → WorldData Part → WorldData Part → BenchData → BenchData → Type 0
-Merges config vb stripe answers.Nothing old new bench after = IsLeft old new bench after × (slice_get bench.reads stripe ≡ Some None)
-Merges config vb stripe (answers.Tried tried) old new bench after = ⊥
-Merges config vb stripe (answers.Took number) old new bench after = ⊥
-Merges config vb stripe (answers.Flushed flushed) old new bench after = ⊥
-Merges config vb stripe (answers.Marked marking) old new bench after = ⊥
-Merges config vb stripe (answers.Read waited) old new bench after = ⊥
-Merges config vb stripe (answers.Merged merging) old new bench after = WasMerged config vb stripe merging old new bench after
-Merges config vb stripe (answers.Paged paged) old new bench after = ⊥
+abbrev pub MergesAt : Config → ℕ → ℕ → Answer → WorldData Part → WorldData Part → BenchData → BenchData → Type 0
+MergesAt config vb stripe answers.Nothing old new bench after = IsLeft old new bench after × (slice_get bench.reads stripe ≡ Some None)
+MergesAt config vb stripe (answers.Tried tried) old new bench after = ⊥
+MergesAt config vb stripe (answers.Took number) old new bench after = ⊥
+MergesAt config vb stripe (answers.Flushed flushed) old new bench after = ⊥
+MergesAt config vb stripe (answers.Marked marking) old new bench after = ⊥
+MergesAt config vb stripe (answers.Read waited) old new bench after = ⊥
+MergesAt config vb stripe (answers.Merged merging) old new bench after = WasMerged config vb stripe merging old new bench after
+MergesAt config vb stripe (answers.Paged paged) old new bench after = ⊥

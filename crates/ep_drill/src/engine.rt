@@ -6,7 +6,7 @@ ghost use Rattle.vb_world.specs.World.{part_in};
 ghost use Rattle.ep_drill.specs.Callers.{caller_data};
 ghost use Rattle.ep_drill.specs.Fetches.{HasWaiting};
 ghost use Rattle.ep_drill.specs.Core.{core_data, Interleaves, GoesOn};
-ghost use Rattle.ep_drill.specs.Works.{Takes, Commits, Marks, Fetches, Merges};
+ghost use Rattle.ep_drill.specs.Works.{TakesAt, CommitsAt, MarksAt, FetchesAt, MergesAt};
 ghost use Rattle.ep_drill.specs.Stepped.{BenchIs, IsBenched, IsFronted, IsIdle, IsNoBucket, IsNowhere, IsPagedAt, Ran, RanSome, Spares, Stepped, TakesMemory};
 
 use crate::bench::Bench;
@@ -16,14 +16,12 @@ use crate::part::Part;
 use crate::stored::{commit_at, merge_at, read_at, take_at};
 use crate::turn::{answer_of, try_next};
 use crate::worked::{mark_at, page_at};
+use ep_model::limits::END_OF_MOMENTS;
 use ep_model::{Config, NoMemory, Out};
 use kv_keeper::Keeper;
 use std::alloc::Global;
 use std::marker::Model;
 use vb_world::{History, World};
-
-/// No moment of a step is from here on.
-const END_OF_MOMENTS: u64 = 1 << 62;
 
 /// The vBuckets of a bucket with all that works on them, in one thread: their parts and histories, the desks over
 /// their stores, and the callers with their calls. It makes one step at a time, in any order that it is told.
@@ -83,7 +81,7 @@ impl<K: Keeper> Core<K> {
     fn take_batch(&mut self, alloc: Global, vb: u16) -> Answer
         ensures interleaves { Interleaves self.new }
         ensures goes_on { GoesOn self.old self.new }
-        ensures taken { IsBenched self.old self.new vb (IsNoBucket self.old vb) (Takes self.old.config vb) result }
+        ensures taken { IsBenched self.old self.new vb (IsNoBucket self.old vb) (TakesAt self.old.config vb) result }
     {
         let Some(bench) = self.benches.get_mut(usize::from(vb)) else {
             return Answer::Nothing;
@@ -95,7 +93,7 @@ impl<K: Keeper> Core<K> {
     fn commit(&mut self, alloc: Global, vb: u16) -> Result<Answer, NoMemory>
         ensures interleaves { Interleaves self.new }
         ensures goes_on { GoesOn self.old self.new }
-        ensures committed { IfOk result (IsBenched self.old self.new vb (IsNoBucket self.old vb) (Commits self.old.config vb)) }
+        ensures committed { IfOk result (IsBenched self.old self.new vb (IsNoBucket self.old vb) (CommitsAt self.old.config vb)) }
         ensures err { OnErr result (Spares self.old self.new × BenchIs self.old vb (λ bench. IsSome bench.batch)) }
     {
         let Some(bench) = self.benches.get_mut(usize::from(vb)) else {
@@ -108,7 +106,7 @@ impl<K: Keeper> Core<K> {
     fn mark(&mut self, vb: u16, stripe: u16) -> Result<Answer, NoMemory>
         ensures interleaves { Interleaves self.new }
         ensures goes_on { GoesOn self.old self.new }
-        ensures marked { IfOk result (IsBenched self.old self.new vb (IsNowhere self.old vb stripe) (Marks self.old.config vb stripe)) }
+        ensures marked { IfOk result (IsBenched self.old self.new vb (IsNowhere self.old vb stripe) (MarksAt self.old.config vb stripe)) }
         ensures err { OnErr result (Spares self.old self.new × (vb < self.old.config.vbuckets) × (stripe < self.old.config.stripes)) }
     {
         let Some(bench) = self.benches.get(usize::from(vb)) else {
@@ -136,7 +134,7 @@ impl<K: Keeper> Core<K> {
     fn read(&mut self, alloc: Global, vb: u16, stripe: u16) -> Result<Answer, NoMemory>
         ensures interleaves { Interleaves self.new }
         ensures goes_on { GoesOn self.old self.new }
-        ensures read { IfOk result (IsBenched self.old self.new vb (IsNowhere self.old vb stripe) (Fetches self.old.config vb stripe)) }
+        ensures read { IfOk result (IsBenched self.old self.new vb (IsNowhere self.old vb stripe) (FetchesAt self.old.config vb stripe)) }
         ensures err { OnErr result (Spares self.old self.new × BenchIs self.old vb (λ bench. bench.desk.doubt ≡ None) × HasWaiting (part_in self.old.world vb (Stripe stripe))) }
     {
         let Some(bench) = self.benches.get_mut(usize::from(vb)) else {
@@ -160,7 +158,7 @@ impl<K: Keeper> Core<K> {
     fn merge(&mut self, vb: u16, stripe: u16) -> Result<Answer, NoMemory>
         ensures interleaves { Interleaves self.new }
         ensures goes_on { GoesOn self.old self.new }
-        ensures merged { IfOk result (IsBenched self.old self.new vb (IsNowhere self.old vb stripe) (Merges self.old.config vb stripe)) }
+        ensures merged { IfOk result (IsBenched self.old self.new vb (IsNowhere self.old vb stripe) (MergesAt self.old.config vb stripe)) }
         ensures err { OnErr result (Spares self.old self.new × (stripe < self.old.config.stripes) × BenchIs self.old vb (λ bench. slice_get bench.reads stripe ≡ Some None → ⊥)) }
     {
         let Some(bench) = self.benches.get_mut(usize::from(vb)) else {

@@ -13,13 +13,13 @@ ghost use Rattle.kv_keeper.specs.Desk.{IsSure};
 ghost use Rattle.flat_parts.specs.Nodes.{first_waiting};
 ghost use Rattle.ep_drill.specs.Stands.{StripeStands, DeskStands, FetchedStands};
 ghost use Rattle.ep_drill.specs.Calls.{AreHome, HasRoom, KeptBut};
-ghost use Rattle.ep_drill.specs.Fetches.{found_data, fetched_data, settles, IsOldest, IsFoundIn, IsBack, IsRead, IsMerged, Reads, ReadsOldest, HasWaiting};
+ghost use Rattle.ep_drill.specs.Fetches.{found_data, fetched_data, settles, IsOldest, IsFoundIn, IsBack, IsRead, IsMerged, Reads, WantsRead, ReadsOldest, HasWaiting};
 
 pub use crate::fetched::{Fetched, Found, Row};
 use crate::hold::{take_desk, take_stripe};
 use crate::part::Part;
 use ep_model::{Event, NoMemory, Out, PartName, Ticket};
-use flat_parts::{FlatStripe, Found as Look, Outcome};
+use flat_parts::{FlatStripe, Outcome, Residency};
 use hold_stage::Stage;
 use kv_keeper::{Desk, Keeper, Kept};
 use std::alloc::Global;
@@ -56,6 +56,7 @@ fn read_found<K: Keeper>(alloc: Global, desk: &mut Desk<K>, key: &[u8], value: &
     requires value { max_value ≤ value.old.spare + length value.old.bytes }
     ensures found { (c : Content) → desk.old.keeper.content ≡ Some c → IsFoundIn c key.now (found_data result) }
     ensures reads { Reads desk.old desk.new (found_data result) }
+    ensures memory { WantsRead desk.old key.now (found_data result) }
     ensures value { value.new.spare + length value.new.bytes ≡ value.old.spare + length value.old.bytes }
 {
     value.cut(0);
@@ -82,7 +83,6 @@ pub(crate) fn fetch_read<S: Stage<Part = Part>, K: Keeper>(
     requires there { there (S.front stage.old).config (Stripe stripe) ≡ true }
     requires eviction { (S.front stage.old).config.eviction ≡ ValueEviction }
     requires sure { IsSure desk.old }
-    requires tells { IsSome desk.old.keeper.content }
     requires desk { DeskStands (S.front stage.old) desk.old }
     requires telling { S.is_telling stage.old ≡ true }
     requires home { AreHome (S.front stage.old).config (S.tells stage.old) }
@@ -117,12 +117,12 @@ fn put_back(part: &mut FlatStripe, key: &[u8], row: Row) -> bool
     ensures { IsBack part.old key.now row.meta row.value.items part.new result }
 {
     match part.find(key) {
-        Look::Resident(_) => true,
-        Look::Ejected(meta) if meta == row.meta => {
+        Residency::Resident(_) => true,
+        Residency::Ejected(meta) if meta == row.meta => {
             part.restore(key, row.meta, row.value);
             true
         }
-        Look::Ejected(_) | Look::Nothing => false,
+        Residency::Ejected(_) | Residency::Nothing => false,
     }
 }
 

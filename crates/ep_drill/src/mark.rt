@@ -8,7 +8,7 @@ ghost use Rattle.ep_model.specs.Legal.{May, IsLegal};
 ghost use Rattle.hold_stage.specs.Touches.{there, is_stripe};
 ghost use Rattle.hold_stage.specs.Stays.{Stays};
 ghost use Rattle.hold_stage.specs.Grows.{Same};
-ghost use Rattle.hold_stage.specs.Went.{noted, Went, LeavesRoom};
+ghost use Rattle.hold_stage.specs.Went.{with_noted, Went, LeavesRoom};
 ghost use Rattle.ep_drill.specs.Calls.{KeptBut};
 ghost use Rattle.ep_drill.specs.Marks.{marked_by, HasMarked, MarksPart};
 
@@ -45,8 +45,8 @@ pub(crate) fn mark_once<S: Stage<Part = Part>, K: Keeper>(
     ensures room { LeavesRoom (S.covers stage.old) (S.covers stage.new) (marked_by stripe desk.now.noted result) }
     ensures marked { HasMarked (S.front stage.new) stripe desk.now.noted (S.losses stage.old) (S.losses stage.new) result }
     ensures held { Same (S.holds stage.new) (S.holds stage.old) }
-    ensures alone { S.is_telling stage.old ≡ true → S.front stage.new ≡ noted (S.front stage.old) (marked_by stripe desk.now.noted result) }
-    ensures told { S.is_telling stage.old ≡ true → MarksPart (S.tells stage.old (Stripe stripe)) (S.tells stage.new (Stripe stripe)) desk.now.noted result }
+    ensures alone { S.is_telling stage.old ≡ true → S.front stage.new ≡ with_noted (S.front stage.old) (marked_by stripe desk.now.noted result) }
+    ensures becomes { S.is_telling stage.old ≡ true → MarksPart (S.tells stage.old (Stripe stripe)) (S.tells stage.new (Stripe stripe)) desk.now.noted result }
     ensures kept { S.is_telling stage.old ≡ true → KeptBut (S.front stage.old).config (is_stripe stripe) (S.tells stage.old) (S.tells stage.new) }
 {
     let number = desk.noted();

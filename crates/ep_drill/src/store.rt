@@ -10,13 +10,13 @@ ghost use Rattle.hold_stage.specs.Touches.{there, is_stripe, is_queue, is_desk};
 ghost use Rattle.hold_stage.specs.Stays.{Stays};
 ghost use Rattle.hold_stage.specs.Grows.{Same, IsNone};
 ghost use Rattle.ep_model.specs.Mutations.{laid_on};
-ghost use Rattle.kv_keeper.specs.Batch.{laid, AreDistinct, AreWithin};
+ghost use Rattle.kv_keeper.specs.Batch.{laid, AreDistinct};
 ghost use Rattle.kv_keeper.specs.Desk.{IsSure};
 ghost use Rattle.flat_parts.specs.Steps.{page_step};
 ghost use Rattle.ep_drill.specs.Stands.{DeskStands, BatchStands};
 ghost use Rattle.ep_drill.specs.Calls.{AreHome, HasRoom, KeptBut};
 ghost use Rattle.ep_drill.specs.Parts.{Becomes};
-ghost use Rattle.ep_drill.specs.Answers.{IsPaged, IsTaken, IsFlushed};
+ghost use Rattle.ep_drill.specs.StoreSide.{IsPaged, IsTaken, IsFlushed};
 
 use crate::hold::{take_desk, take_queue, take_stripe};
 use crate::part::Part;
@@ -89,8 +89,7 @@ pub(crate) fn take_batch<S: Stage<Part = Part>, K: Keeper>(
     desk: &Desk<K>,
     stage: &mut S,
 ) -> Result<Option<Batch>, NoMemory>
-    requires opened { (world_of (S.front stage.old)).opened ≡ true }
-    requires stored { desk.now.stored ≡ (world_of (S.front stage.old)).persisted }
+    requires desk { DeskStands (S.front stage.old) desk.now }
     requires telling { S.is_telling stage.old ≡ true }
     requires home { AreHome (S.front stage.old).config (S.tells stage.old) }
     requires free { IsNone (S.holds stage.old) }
@@ -126,7 +125,6 @@ pub(crate) fn commit_batch<S: Stage<Part = Part>, K: Keeper>(
     requires sure { IsSure desk.old }
     requires desk { DeskStands (S.front stage.old) desk.old }
     requires batch { BatchStands (S.front stage.old) desk.old.stored batch.now }
-    requires within { AreWithin batch.now.rows }
     requires legal { IsLegal (S.front stage.old) }
     requires is_desk { S.is_desk stage.old ≡ true }
     requires telling { S.is_telling stage.old ≡ true }

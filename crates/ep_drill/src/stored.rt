@@ -6,7 +6,7 @@ ghost use Rattle.vb_world.specs.World.{front_in, part_in, Sound};
 ghost use Rattle.ep_drill.specs.Parts.{part_stands};
 ghost use Rattle.ep_drill.specs.Fetches.{HasWaiting};
 ghost use Rattle.ep_drill.specs.Core.{bench_data, BenchStands, Ready, Moved, Rested, Worked};
-ghost use Rattle.ep_drill.specs.Works.{Takes, Commits, Fetches, Merges};
+ghost use Rattle.ep_drill.specs.Works.{TakesAt, CommitsAt, FetchesAt, MergesAt};
 
 use crate::bench::Bench;
 use crate::choice::Answer;
@@ -33,7 +33,7 @@ pub(crate) fn take_at<K: Keeper>(
     requires vb { vb < config.now.vbuckets }
     requires sound { Sound part_stands world.old }
     requires bench { BenchStands (front_in world.old vb) (bench_data bench.old) }
-    ensures taken { Takes config.now vb result world.old world.new (bench_data bench.old) (bench_data bench.new) }
+    ensures taken { TakesAt config.now vb result world.old world.new (bench_data bench.old) (bench_data bench.new) }
     ensures moved { Moved config.now vb None world.old world.new }
     ensures bench { BenchStands (front_in world.new vb) (bench_data bench.new) }
     ensures sound { Sound part_stands world.new }
@@ -69,7 +69,7 @@ pub(crate) fn commit_at<K: Keeper>(
     requires vb { vb < config.now.vbuckets }
     requires sound { Sound part_stands world.old }
     requires bench { BenchStands (front_in world.old vb) (bench_data bench.old) }
-    ensures ok { IfOk result (λ answer. Commits config.now vb answer world.old world.new (bench_data bench.old) (bench_data bench.new)) }
+    ensures ok { IfOk result (λ answer. CommitsAt config.now vb answer world.old world.new (bench_data bench.old) (bench_data bench.new)) }
     ensures err { OnErr result (Rested config.now world.old world.new × (bench_data bench.new ≡ bench_data bench.old) × IsSome (bench_data bench.old).batch) }
     ensures worked { Worked config.now vb world.old world.new }
     ensures bench { BenchStands (front_in world.new vb) (bench_data bench.new) }
@@ -106,7 +106,7 @@ fn read_sure<K: Keeper>(
     requires sure { bench.old.desk.doubt ≡ None }
     requires bench { BenchStands (front_in world.old vb) (bench_data bench.old) }
     requires value { value.old.spare + length value.old.bytes ≡ max_value }
-    ensures ok { IfOk result (λ answer. Fetches config.now vb stripe answer world.old world.new (bench_data bench.old) (bench_data bench.new)) }
+    ensures ok { IfOk result (λ answer. FetchesAt config.now vb stripe answer world.old world.new (bench_data bench.old) (bench_data bench.new)) }
     ensures err { OnErr result (Rested config.now world.old world.new × (bench_data bench.new ≡ bench_data bench.old) × ((bench_data bench.old).desk.doubt ≡ None) × HasWaiting (part_in world.old vb (Stripe stripe))) }
     ensures moved { Moved config.now vb None world.old world.new }
     ensures bench { BenchStands (front_in world.new vb) (bench_data bench.new) }
@@ -143,7 +143,7 @@ pub(crate) fn read_at<K: Keeper>(
     requires sound { Sound part_stands world.old }
     requires bench { BenchStands (front_in world.old vb) (bench_data bench.old) }
     requires value { value.old.spare + length value.old.bytes ≡ max_value }
-    ensures ok { IfOk result (λ answer. Fetches config.now vb stripe answer world.old world.new (bench_data bench.old) (bench_data bench.new)) }
+    ensures ok { IfOk result (λ answer. FetchesAt config.now vb stripe answer world.old world.new (bench_data bench.old) (bench_data bench.new)) }
     ensures err { OnErr result (Rested config.now world.old world.new × (bench_data bench.new ≡ bench_data bench.old) × ((bench_data bench.old).desk.doubt ≡ None) × HasWaiting (part_in world.old vb (Stripe stripe))) }
     ensures moved { Moved config.now vb None world.old world.new }
     ensures bench { BenchStands (front_in world.new vb) (bench_data bench.new) }
@@ -170,7 +170,7 @@ pub(crate) fn merge_at<K: Keeper>(
     requires stripe { stripe < config.now.stripes }
     requires sound { Sound part_stands world.old }
     requires bench { BenchStands (front_in world.old vb) (bench_data bench.old) }
-    ensures ok { IfOk result (λ answer. Merges config.now vb stripe answer world.old world.new (bench_data bench.old) (bench_data bench.new)) }
+    ensures ok { IfOk result (λ answer. MergesAt config.now vb stripe answer world.old world.new (bench_data bench.old) (bench_data bench.new)) }
     ensures err { OnErr result (Rested config.now world.old world.new × (bench_data bench.new ≡ bench_data bench.old) × (slice_get (bench_data bench.old).reads stripe ≡ Some None → ⊥)) }
     ensures worked { Worked config.now vb world.old world.new }
     ensures bench { BenchStands (front_in world.new vb) (bench_data bench.new) }

@@ -228,6 +228,36 @@ fn a_failed_read_is_a_temporary_failure(rt: HostRuntime) -> Result<(), Fail> {
     Ok(())
 }
 
+/// The answers of a Get whose read fails: it is asked for at the ticket of this number, read, merged and refused.
+fn failed_read(number: u64) -> [Seen; 4] {
+    let ticket = Ticket { stripe: 0, number };
+    [
+        Seen::Other(Answer::Tried(Tried::Fetch(ticket))),
+        Seen::Other(Answer::Read(true)),
+        Seen::Other(Answer::Merged(Merging::Failed)),
+        Seen::Status(0x86),
+    ]
+}
+
+#[test]
+fn each_of_four_reads_that_fail_is_a_temporary_failure(rt: HostRuntime) -> Result<(), Fail> {
+    let alloc = rt.alloc();
+    let mut core = core_of(alloc, &[0, 1, 2, 3])?;
+    load_set(alloc, &mut core, 0, b"k", &LONG)?;
+    load_get(alloc, &mut core, 0, b"k")?;
+    load_get(alloc, &mut core, 0, b"k")?;
+    load_get(alloc, &mut core, 0, b"k")?;
+    load_get(alloc, &mut core, 0, b"k")?;
+    let steps = [front(0), TAKE, COMMIT, MARK, PAGE];
+    let stored = stored_and_read();
+    expect(&rt, alloc, &mut core, &steps, &stored[..5])?;
+    for number in 1..5u64 {
+        let steps = [front(0), READ, MERGE, front(0)];
+        expect(&rt, alloc, &mut core, &steps, &failed_read(number))?;
+    }
+    Ok(())
+}
+
 #[test]
 fn a_batch_takes_the_place_of_one_that_is_not_committed(rt: HostRuntime) -> Result<(), Fail> {
     let alloc = rt.alloc();

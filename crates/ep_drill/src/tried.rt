@@ -5,7 +5,7 @@ ghost use Rattle.ep_model.specs.declared.config.Eviction.TheVariants.{Value as V
 ghost use Rattle.ep_model.specs.declared.data.CallData.TheVariants.{Get as GetData, Store as StoreData};
 ghost use Rattle.ep_model.specs.declared.event.PartName.{PartName};
 ghost use Rattle.ep_model.specs.declared.event.PartName.TheVariants.{Stripe, Queue};
-ghost use Rattle.ep_model.specs.Limits.{max_key, max_value, IsKey, IsValue, IsWithin};
+ghost use Rattle.ep_model.specs.Limits.{max_key, max_value, event_bytes, IsKey, IsMoment, IsValue, IsWithin};
 ghost use Rattle.ep_model.specs.Config.{fit_of};
 ghost use Rattle.ep_model.specs.History.{call_data};
 ghost use Rattle.ep_model.specs.Legal.{May, IsLegal};
@@ -13,9 +13,9 @@ ghost use Rattle.hold_stage.specs.Touches.{there, touches_call, bytes_of};
 ghost use Rattle.hold_stage.specs.Stays.{Stays};
 ghost use Rattle.hold_stage.specs.Grows.{Same, IsNone, Covered, IsOwn};
 ghost use Rattle.ep_drill.specs.Stands.{PriorsStand};
-ghost use Rattle.hold_stage.specs.Went.{noted};
+ghost use Rattle.hold_stage.specs.Went.{with_noted};
 ghost use Rattle.ep_drill.specs.Calls.{is_prior, event_of, AreHome, HasRoom, KeptBut};
-ghost use Rattle.ep_drill.specs.Tries.{Gets, Sets};
+ghost use Rattle.ep_drill.specs.Tries.{ComesToGet, ComesToSet};
 
 use crate::hold::{take_queue, take_stripe};
 use crate::part::Part;
@@ -24,9 +24,6 @@ use flat_parts::Step;
 use flat_parts::write::write;
 use hold_stage::Stage;
 use std::alloc::Global;
-
-/// How many bytes the key and the values of an event have at most.
-pub const EVENT_BYTES: usize = 1_048_826;
 
 // Whether a ticket is the one that was asked before.
 fn is_prior(prior: Option<Ticket>, ticket: Ticket) -> bool
@@ -50,11 +47,11 @@ fn note_step<S: Stage<Part = Part>>(
     requires telling { S.is_telling stage.old ≡ true }
     requires covered { IfSome (event_of (S.number stage.old) (call_data call.now) now prior value.now step) (Covered (S.holds stage.old) (S.front stage.old)) }
     requires may { IfSome (event_of (S.number stage.old) (call_data call.now) now prior value.now step) (May (S.front stage.old)) }
-    requires bytes { IfSome (event_of (S.number stage.old) (call_data call.now) now prior value.now step) (λ e. bytes_of e ≤ EVENT_BYTES) }
+    requires bytes { IfSome (event_of (S.number stage.old) (call_data call.now) now prior value.now step) (λ e. bytes_of e ≤ event_bytes) }
     requires legal { IsLegal (S.front stage.old) }
-    requires room { HasRoom EVENT_BYTES (S.covers stage.old) }
+    requires room { HasRoom event_bytes (S.covers stage.old) }
     ensures stays { Stays S.lent S.fixed S.number S.is_desk S.is_telling stage.old stage.new }
-    ensures front { S.front stage.new ≡ noted (S.front stage.old) (event_of (S.number stage.old) (call_data call.now) now prior value.now step) }
+    ensures front { S.front stage.new ≡ with_noted (S.front stage.old) (event_of (S.number stage.old) (call_data call.now) now prior value.now step) }
     ensures legal { IsLegal (S.front stage.new) }
     ensures held { Same (S.holds stage.new) (S.holds stage.old) }
     ensures tells { (p : PartName) → S.tells stage.new p ≡ S.tells stage.old p }
@@ -102,13 +99,13 @@ pub(crate) fn try_get<S: Stage<Part = Part>>(
     requires telling { S.is_telling stage.old ≡ true }
     requires home { AreHome (S.front stage.old).config (S.tells stage.old) }
     requires free { IsNone (S.holds stage.old) }
-    requires room { HasRoom EVENT_BYTES (S.covers stage.old) }
+    requires room { HasRoom event_bytes (S.covers stage.old) }
     requires key { IsKey key.now }
     requires prior { PriorsStand (S.front stage.old) (S.number stage.old) (GetData key.now) prior }
     requires value { (value.old.bytes ≡ []) × (value.old.spare ≡ max_value) }
     ensures stays { Stays S.lent S.fixed S.number S.is_desk S.is_telling stage.old stage.new }
-    ensures front { IfOk result (λ step. S.front stage.new ≡ noted (S.front stage.old) (event_of (S.number stage.old) (GetData key.now) now prior value.new.bytes step)) }
-    ensures comes { IfOk result (Gets stripes (S.tells stage.old) (S.tells stage.new) prior key.now now) }
+    ensures front { IfOk result (λ step. S.front stage.new ≡ with_noted (S.front stage.old) (event_of (S.number stage.old) (GetData key.now) now prior value.new.bytes step)) }
+    ensures comes { IfOk result (ComesToGet stripes (S.tells stage.old) (S.tells stage.new) prior key.now now) }
     ensures kept { KeptBut (S.front stage.old).config (touches_call (S.front stage.old).config (GetData key.now)) (S.tells stage.old) (S.tells stage.new) }
     ensures err { OnErr result (S.front stage.new ≡ S.front stage.old) }
     ensures parts { OnErr result ((p : PartName) → there (S.front stage.old).config p ≡ true → S.tells stage.new p ≡ S.tells stage.old p) }
@@ -148,13 +145,13 @@ pub(crate) fn try_set<S: Stage<Part = Part>>(
     requires telling { S.is_telling stage.old ≡ true }
     requires home { AreHome (S.front stage.old).config (S.tells stage.old) }
     requires free { IsNone (S.holds stage.old) }
-    requires room { HasRoom EVENT_BYTES (S.covers stage.old) }
+    requires room { HasRoom event_bytes (S.covers stage.old) }
     requires key { IsKey key.now }
     requires value { IsValue value.now }
-    requires moment { now < 2 ^ 62 }
+    requires moment { IsMoment now }
     ensures stays { Stays S.lent S.fixed S.number S.is_desk S.is_telling stage.old stage.new }
-    ensures front { IfOk result (λ step. S.front stage.new ≡ noted (S.front stage.old) (event_of (S.number stage.old) (StoreData SetKind key.now value.now flags expiration cas) now prior [] step)) }
-    ensures comes { IfOk result (Sets config.now.stripes (fit_of config.now) (S.tells stage.old) (S.tells stage.new) prior key.now value.now flags expiration cas now) }
+    ensures front { IfOk result (λ step. S.front stage.new ≡ with_noted (S.front stage.old) (event_of (S.number stage.old) (StoreData SetKind key.now value.now flags expiration cas) now prior [] step)) }
+    ensures comes { IfOk result (ComesToSet config.now.stripes (fit_of config.now) (S.tells stage.old) (S.tells stage.new) prior key.now value.now flags expiration cas now) }
     ensures kept { KeptBut config.now (touches_call config.now (StoreData SetKind key.now value.now flags expiration cas)) (S.tells stage.old) (S.tells stage.new) }
     ensures err { OnErr result (S.front stage.new ≡ S.front stage.old) }
     ensures parts { OnErr result ((p : PartName) → there (S.front stage.old).config p ≡ true → S.tells stage.new p ≡ S.tells stage.old p) }

@@ -1,7 +1,7 @@
 // A caller's turn: its next call is tried.
 ghost use Rattle.std.specs.Prelude.{◌≡◌, ◌+◌, ◌^◌, ◌<◌, length, Some, None, IsSome, IfOk, OnErr};
 ghost use Rattle.std.specs.List.{AllByRecursion};
-ghost use Rattle.ep_model.specs.Limits.{max_value};
+ghost use Rattle.ep_model.specs.Limits.{IsMoment, max_value};
 ghost use Rattle.vb_world.specs.World.{front_in, Sound};
 ghost use Rattle.ep_drill.specs.Parts.{part_stands};
 ghost use Rattle.ep_drill.specs.Callers.{CallerStands, caller_data, next_of, after_step, tried_of};
@@ -69,7 +69,7 @@ pub(crate) fn try_next(
     requires sound { Sound part_stands world.old }
     requires stands { CallerStands (front_in world.old) number (caller_data caller.old) }
     requires loaded { AllByRecursion (IsOn config.now) (caller_data caller.old).calls }
-    requires moment { now < 2 ^ 62 }
+    requires moment { IsMoment now }
     requires value { value.old.spare + length value.old.bytes ≡ max_value }
     ensures ok { IfOk result (Turned config.now number now world.old world.new (caller_data caller.old) (caller_data caller.new) value.new.bytes) }
     ensures err { OnErr result (Rested config.now world.old world.new × (caller_data caller.new ≡ caller_data caller.old) × IsSome (next_of (caller_data caller.old))) }

@@ -3,7 +3,7 @@ ghost use Rattle.std.specs.Prelude.{◌≡◌, ◌+◌, ◌^◌, ◌<◌, ◌≤
 ghost use Rattle.ep_model.specs.declared.call.StoreKind.TheVariants.{Set as SetKind};
 ghost use Rattle.ep_model.specs.declared.data.CallData.TheVariants.{Get as GetData, Store as StoreData};
 ghost use Rattle.ep_model.specs.declared.event.PartName.TheVariants.{Stripe};
-ghost use Rattle.ep_model.specs.Limits.{max_value, IsKey, IsValue};
+ghost use Rattle.ep_model.specs.Limits.{max_value, IsKey, IsMoment, IsValue};
 ghost use Rattle.ep_model.specs.Config.{fit_of};
 ghost use Rattle.ep_model.specs.Front.{world_of};
 ghost use Rattle.hold_stage.specs.Touches.{is_stripe, touches_call};
@@ -11,11 +11,11 @@ ghost use Rattle.vb_world.specs.World.{front_in, part_in, Sound};
 ghost use Rattle.ep_drill.specs.Parts.{part_stands};
 ghost use Rattle.ep_drill.specs.Stands.{PriorsStand};
 ghost use Rattle.ep_drill.specs.Calls.{event_of, KeptBut};
-ghost use Rattle.ep_drill.specs.Answers.{IsPaged};
+ghost use Rattle.ep_drill.specs.StoreSide.{IsPaged};
 ghost use Rattle.ep_drill.specs.Callers.{owned_data};
 ghost use Rattle.ep_drill.specs.Core.{bench_data, BenchStands, Ready, Moved, Rested, Worked};
-ghost use Rattle.ep_drill.specs.Tries.{Gets, Sets, ComesTo};
-ghost use Rattle.ep_drill.specs.Works.{Marks};
+ghost use Rattle.ep_drill.specs.Tries.{ComesToGet, ComesToSet, ComesTo};
+ghost use Rattle.ep_drill.specs.Works.{MarksAt};
 
 use crate::bench::Bench;
 use crate::choice::Answer;
@@ -23,7 +23,8 @@ use crate::mark::mark_once;
 use crate::owned::{Loaded, OwnedCall, OwnedKey, OwnedSet};
 use crate::part::Part;
 use crate::store::{Paged, page_once};
-use crate::tried::{EVENT_BYTES, try_get, try_set};
+use crate::tried::{try_get, try_set};
+use ep_model::limits::EVENT_BYTES;
 use ep_model::{Config, NoMemory, Out, Ticket};
 use flat_parts::Step;
 use kv_keeper::Keeper;
@@ -50,7 +51,7 @@ fn get_at(
     requires prior { PriorsStand (front_in world.old vb) number (GetData key.now.bytes.items) prior }
     requires value { (value.old.bytes ≡ []) × (value.old.spare ≡ max_value) }
     ensures ok { IfOk result (λ step. Moved config.now vb (event_of number (GetData key.now.bytes.items) now prior value.new.bytes step) world.old world.new) }
-    ensures comes { IfOk result (Gets config.now.stripes (part_in world.old vb) (part_in world.new vb) prior key.now.bytes.items now) }
+    ensures comes { IfOk result (ComesToGet config.now.stripes (part_in world.old vb) (part_in world.new vb) prior key.now.bytes.items now) }
     ensures kept { KeptBut config.now (touches_call config.now (GetData key.now.bytes.items)) (part_in world.old vb) (part_in world.new vb) }
     ensures err { OnErr result (Rested config.now world.old world.new) }
     ensures sound { Sound part_stands world.new }
@@ -86,9 +87,9 @@ fn set_at(
 ) -> Result<Step, NoMemory>
     requires ready { Ready config.now world.old }
     requires vb { vb < config.now.vbuckets }
-    requires moment { now < 2 ^ 62 }
+    requires moment { IsMoment now }
     ensures ok { IfOk result (λ step. Moved config.now vb (event_of number (StoreData SetKind call.now.key.bytes.items call.now.value.items call.now.flags call.now.expiration call.now.cas) now prior [] step) world.old world.new) }
-    ensures comes { IfOk result (Sets config.now.stripes (fit_of config.now) (part_in world.old vb) (part_in world.new vb) prior call.now.key.bytes.items call.now.value.items call.now.flags call.now.expiration call.now.cas now) }
+    ensures comes { IfOk result (ComesToSet config.now.stripes (fit_of config.now) (part_in world.old vb) (part_in world.new vb) prior call.now.key.bytes.items call.now.value.items call.now.flags call.now.expiration call.now.cas now) }
     ensures kept { KeptBut config.now (touches_call config.now (StoreData SetKind call.now.key.bytes.items call.now.value.items call.now.flags call.now.expiration call.now.cas)) (part_in world.old vb) (part_in world.new vb) }
     ensures err { OnErr result (Rested config.now world.old world.new) }
     ensures sound { Sound part_stands world.new }
@@ -128,7 +129,7 @@ pub(crate) fn try_loaded(
     requires ready { Ready config.now world.old }
     requires vb { loaded.now.vb < config.now.vbuckets }
     requires prior { PriorsStand (front_in world.old loaded.now.vb) number (owned_data loaded.now.call) prior }
-    requires moment { now < 2 ^ 62 }
+    requires moment { IsMoment now }
     requires value { (value.old.bytes ≡ []) × (value.old.spare ≡ max_value) }
     ensures ok { IfOk result (λ step. Moved config.now loaded.now.vb (event_of number (owned_data loaded.now.call) now prior value.new.bytes step) world.old world.new) }
     ensures comes { IfOk result (ComesTo config.now (part_in world.old loaded.now.vb) (part_in world.new loaded.now.vb) (owned_data loaded.now.call) now prior) }
@@ -156,7 +157,7 @@ pub(crate) fn mark_at<K: Keeper>(
     requires vb { vb < config.now.vbuckets }
     requires stripe { stripe < config.now.stripes }
     requires bench { BenchStands (front_in world.old vb) (bench_data bench.now) }
-    ensures ok { IfOk result (λ answer. Marks config.now vb stripe answer world.old world.new (bench_data bench.now) (bench_data bench.now)) }
+    ensures ok { IfOk result (λ answer. MarksAt config.now vb stripe answer world.old world.new (bench_data bench.now) (bench_data bench.now)) }
     ensures err { OnErr result (Rested config.now world.old world.new) }
     ensures worked { Worked config.now vb world.old world.new }
     ensures bench { BenchStands (front_in world.new vb) (bench_data bench.now) }

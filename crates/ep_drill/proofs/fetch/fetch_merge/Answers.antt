@@ -86,7 +86,7 @@ returns-then-put_back-clause-merged g c =
     let has = has_place c.outcome.result c.is_none.result t.result.places a.ticket.number c.outcome.ensures c.is_none.ensures c.if-is_none.false in
     let telling = t.ensures.stays.telling ∙ c.requires.telling in (
       c.settle.ensures.front ∙ t.ensures.front,
-      part_place (g.S.Stage.tells c.args.stage.now (Stripe a.ticket.stripe)) a.ticket t.result t.ensures.told has,
+      part_place (g.S.Stage.tells c.args.stage.now (Stripe a.ticket.stripe)) a.ticket t.result t.ensures.was_there has,
       back_outcome (g.S.Stage.front c.args.stage.now) (g.S.Stage.front t.new.stage) a.ticket (g.S.Stage.is_telling t.new.stage) (g.S.Stage.tells t.new.stage) (g.S.Stage.tells c.settle.new.stage) y outcomes.Merged
           (ap (λ (f : FrontData). f.config) t.ensures.front) c.requires.there telling c.settle.ensures.tells a.key.items c.deref.result.now row.meta row.value.items t.result c.put_back.result c.deref.ensures.value c.put_back.ensures c.if-put_back.true has,
       back_value (g.S.Stage.front c.args.stage.now) (g.S.Stage.front t.new.stage) a.ticket (g.S.Stage.is_telling t.new.stage) (g.S.Stage.tells t.new.stage) (g.S.Stage.tells c.settle.new.stage) y outcomes.Merged
@@ -94,7 +94,7 @@ returns-then-put_back-clause-merged g c =
       subst (λ (o : FoundData). IsRow o) (sym (ap found_data c.in-Row.is)) tt,
       back_becomes (g.S.Stage.front c.args.stage.now) (g.S.Stage.front t.new.stage) a.ticket (g.S.Stage.is_telling t.new.stage) (g.S.Stage.tells t.new.stage) (g.S.Stage.tells c.settle.new.stage) y outcomes.Merged
           (ap (λ (f : FrontData). f.config) t.ensures.front) c.requires.there telling c.settle.ensures.tells a.key.items c.deref.result.now row.meta row.value.items t.result c.put_back.result c.deref.ensures.value c.put_back.ensures c.if-put_back.true
-          (g.S.Stage.tells c.args.stage.now (Stripe a.ticket.stripe)) (found_data a.found) t.ensures.told (ap found_data c.in-Row.is),
+          (g.S.Stage.tells c.args.stage.now (Stripe a.ticket.stripe)) (found_data a.found) t.ensures.was_there (ap found_data c.in-Row.is),
     )
 
 pub returns-in-Row-clause-merged : goal.returns-in-Row-clause-merged
@@ -114,12 +114,12 @@ returns-in-Absent-clause-merged g c =
     let r = c.settle-in-Absent in
     let has = has_place c.outcome.result c.is_none.result t.result.places a.ticket.number c.outcome.ensures c.is_none.ensures c.if-is_none.false in (
       r.ensures.front ∙ t.ensures.front,
-      part_place (g.S.Stage.tells c.args.stage.now (Stripe a.ticket.stripe)) a.ticket t.result t.ensures.told has,
+      part_place (g.S.Stage.tells c.args.stage.now (Stripe a.ticket.stripe)) a.ticket t.result t.ensures.was_there has,
       ap found_data c.in-Absent.is,
       part_outcome (g.S.Stage.front c.args.stage.now) (g.S.Stage.front t.new.stage) a.ticket (g.S.Stage.is_telling t.new.stage) (g.S.Stage.tells t.new.stage) (g.S.Stage.tells r.new.stage) t.result outcomes.Absent
           (ap (λ (f : FrontData). f.config) t.ensures.front) c.requires.there (t.ensures.stays.telling ∙ c.requires.telling) r.ensures.tells has,
       part_becomes (g.S.Stage.front c.args.stage.now) (g.S.Stage.front t.new.stage) a.ticket (g.S.Stage.is_telling t.new.stage) (g.S.Stage.tells t.new.stage) (g.S.Stage.tells r.new.stage) t.result outcomes.Absent
-          (ap (λ (f : FrontData). f.config) t.ensures.front) c.requires.there (t.ensures.stays.telling ∙ c.requires.telling) r.ensures.tells (g.S.Stage.tells c.args.stage.now (Stripe a.ticket.stripe)) t.ensures.told,
+          (ap (λ (f : FrontData). f.config) t.ensures.front) c.requires.there (t.ensures.stays.telling ∙ c.requires.telling) r.ensures.tells (g.S.Stage.tells c.args.stage.now (Stripe a.ticket.stripe)) t.ensures.was_there,
     )
 
 pub returns-in-Failed-clause-merged : goal.returns-in-Failed-clause-merged
@@ -136,11 +136,11 @@ returns-in-Failed-clause-merged g c =
       c.in-Failed.fault,
       ap found_data c.in-Failed.is,
       r.ensures.front ∙ v.ensures.front ∙ noted ∙ ap (λ (f : FrontData). with_event f (events.ReadFailed a.ticket c.in-Failed.fault)) (d.ensures.front ∙ t.ensures.front),
-      part_place (g.S.Stage.tells c.args.stage.now (Stripe a.ticket.stripe)) a.ticket t.result t.ensures.told has,
+      part_place (g.S.Stage.tells c.args.stage.now (Stripe a.ticket.stripe)) a.ticket t.result t.ensures.was_there has,
       part_outcome (g.S.Stage.front c.args.stage.now) (g.S.Stage.front v.new.self) a.ticket (g.S.Stage.is_telling v.new.self) (g.S.Stage.tells v.new.self) (g.S.Stage.tells r.new.stage) t.result (outcomes.Failed c.in-Failed.fault)
           (ap (λ (f : FrontData). f.config) (v.ensures.front ∙ noted) ∙ ap (λ (f : FrontData). f.config) (d.ensures.front ∙ t.ensures.front)) c.requires.there (v.ensures.stays.telling ∙ n.ensures.stays.telling ∙ held) r.ensures.tells has,
       part_becomes (g.S.Stage.front c.args.stage.now) (g.S.Stage.front v.new.self) a.ticket (g.S.Stage.is_telling v.new.self) (g.S.Stage.tells v.new.self) (g.S.Stage.tells r.new.stage) t.result (outcomes.Failed c.in-Failed.fault)
-          (ap (λ (f : FrontData). f.config) (v.ensures.front ∙ noted) ∙ ap (λ (f : FrontData). f.config) (d.ensures.front ∙ t.ensures.front)) c.requires.there (v.ensures.stays.telling ∙ n.ensures.stays.telling ∙ held) r.ensures.tells (g.S.Stage.tells c.args.stage.now (Stripe a.ticket.stripe)) t.ensures.told,
+          (ap (λ (f : FrontData). f.config) (v.ensures.front ∙ noted) ∙ ap (λ (f : FrontData). f.config) (d.ensures.front ∙ t.ensures.front)) c.requires.there (v.ensures.stays.telling ∙ n.ensures.stays.telling ∙ held) r.ensures.tells (g.S.Stage.tells c.args.stage.now (Stripe a.ticket.stripe)) t.ensures.was_there,
     )
 
 pub returns-clause-merged : goal.returns-clause-merged
@@ -151,9 +151,9 @@ returns-clause-merged g c =
     let has = has_place c.outcome.result c.is_none.result t.result.places a.ticket.number c.outcome.ensures c.is_none.ensures c.if-is_none.false in (
       r.ensures.front ∙ t.ensures.front,
       ap found_data c.in-NoMemory.is,
-      part_place (g.S.Stage.tells c.args.stage.now (Stripe a.ticket.stripe)) a.ticket t.result t.ensures.told has,
+      part_place (g.S.Stage.tells c.args.stage.now (Stripe a.ticket.stripe)) a.ticket t.result t.ensures.was_there has,
       part_outcome (g.S.Stage.front c.args.stage.now) (g.S.Stage.front t.new.stage) a.ticket (g.S.Stage.is_telling t.new.stage) (g.S.Stage.tells t.new.stage) (g.S.Stage.tells r.new.stage) t.result outcomes.NoMemory
           (ap (λ (f : FrontData). f.config) t.ensures.front) c.requires.there (t.ensures.stays.telling ∙ c.requires.telling) r.ensures.tells has,
       part_becomes (g.S.Stage.front c.args.stage.now) (g.S.Stage.front t.new.stage) a.ticket (g.S.Stage.is_telling t.new.stage) (g.S.Stage.tells t.new.stage) (g.S.Stage.tells r.new.stage) t.result outcomes.NoMemory
-          (ap (λ (f : FrontData). f.config) t.ensures.front) c.requires.there (t.ensures.stays.telling ∙ c.requires.telling) r.ensures.tells (g.S.Stage.tells c.args.stage.now (Stripe a.ticket.stripe)) t.ensures.told,
+          (ap (λ (f : FrontData). f.config) t.ensures.front) c.requires.there (t.ensures.stays.telling ∙ c.requires.telling) r.ensures.tells (g.S.Stage.tells c.args.stage.now (Stripe a.ticket.stripe)) t.ensures.was_there,
     )

@@ -13,7 +13,7 @@ pub returns-in-NoMemory-clause-flushed : goal.returns-in-NoMemory-clause-flushed
 returns-in-NoMemory-clause-flushed g c =
     let r = c.requires in
     commit_none (g.S.Stage.front c.args.stage.now) c.args.desk.now c.to-number.result c.maxcas.result c.args.batch.now
-    r.legal r.desk r.sure r.batch c.to-number.ensures c.maxcas.ensures c.commit.new.self c.in-NoMemory.ensures.after c.in-NoMemory.ensures.commits
+    r.legal r.desk r.sure r.batch c.to-number.ensures c.maxcas.ensures c.commit.new.self c.in-NoMemory.ensures.after c.in-NoMemory.ensures.commits c.in-NoMemory.ensures.memory
 
 pub note-requires-clause-covered : goal.note-requires-clause-covered
 note-requires-clause-covered g c =

@@ -23,7 +23,7 @@ returns-clause-ok g c =
     let m : WasMarked c.args.config.now c.args.vb c.args.stripe c.mark_once-marking.result c.args.world.now c.mark_once-marking.new.stage.world.now (bench_data c.args.bench.now) (bench_data c.args.bench.now) =
     mark_marks c.args.config.now c.args.world.now c.reserve.new.self c.stage-stage.result.world.now c.mark_once-marking.new.stage.world.now c.args.vb c.stage-stage.result.vb c.mark_once-marking.new.stage.vb c.reserve.new.self.event_room c.reserve.new.self.byte_room
     c.args.stripe c.args.bench.now.desk.noted _ _ c.mark_once-marking.result c.requires.ready c.requires.vb c.requires.stripe c.reserve.ensures.same c.stage-stage.ensures.world c.stage-stage.ensures.vb c.mark_once-marking.ensures.stays.fixed
-    (c.mark_once-marking.ensures.alone refl) c.mark_once-marking.ensures.marked (c.mark_once-marking.ensures.told refl) (c.mark_once-marking.ensures.kept refl)
+    (c.mark_once-marking.ensures.alone refl) c.mark_once-marking.ensures.marked (c.mark_once-marking.ensures.becomes refl) (c.mark_once-marking.ensures.kept refl)
     (bench_data c.args.bench.now) refl in
     search rules
 
@@ -33,7 +33,7 @@ returns-clause-worked g c =
     let m : Worked c.args.config.now c.args.vb c.args.world.now c.mark_once-marking.new.stage.world.now =
     mark_worked c.args.config.now c.args.world.now c.reserve.new.self c.stage-stage.result.world.now c.mark_once-marking.new.stage.world.now c.args.vb c.stage-stage.result.vb c.mark_once-marking.new.stage.vb c.reserve.new.self.event_room c.reserve.new.self.byte_room
     c.args.stripe c.args.bench.now.desk.noted _ _ c.mark_once-marking.result c.requires.ready c.requires.vb c.requires.stripe c.reserve.ensures.same c.stage-stage.ensures.world c.stage-stage.ensures.vb c.mark_once-marking.ensures.stays.fixed
-    (c.mark_once-marking.ensures.alone refl) c.mark_once-marking.ensures.marked (c.mark_once-marking.ensures.told refl) (c.mark_once-marking.ensures.kept refl) in
+    (c.mark_once-marking.ensures.alone refl) c.mark_once-marking.ensures.marked (c.mark_once-marking.ensures.becomes refl) (c.mark_once-marking.ensures.kept refl) in
     search rules
 
 -- src/worked.rt
@@ -43,6 +43,6 @@ returns-clause-bench g c =
     let b : BenchStands (front_in c.mark_once-marking.new.stage.world.now c.args.vb) (bench_data c.args.bench.now) =
     mark_bench c.args.config.now c.args.world.now c.reserve.new.self c.stage-stage.result.world.now c.mark_once-marking.new.stage.world.now c.args.vb c.stage-stage.result.vb c.mark_once-marking.new.stage.vb c.reserve.new.self.event_room c.reserve.new.self.byte_room
     c.args.stripe c.args.bench.now.desk.noted _ _ c.mark_once-marking.result c.requires.ready c.requires.vb c.requires.stripe c.reserve.ensures.same c.stage-stage.ensures.world c.stage-stage.ensures.vb c.mark_once-marking.ensures.stays.fixed
-    (c.mark_once-marking.ensures.alone refl) c.mark_once-marking.ensures.marked (c.mark_once-marking.ensures.told refl) (c.mark_once-marking.ensures.kept refl)
+    (c.mark_once-marking.ensures.alone refl) c.mark_once-marking.ensures.marked (c.mark_once-marking.ensures.becomes refl) (c.mark_once-marking.ensures.kept refl)
     (bench_data c.args.bench.now) c.reserve.ensures.sound sound c.requires.bench in
     subst (λ (f : FrontData). BenchStands f (bench_data c.args.bench.now)) (search rules) b

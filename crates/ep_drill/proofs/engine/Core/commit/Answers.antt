@@ -5,7 +5,7 @@ use Rattle.ep_drill.specs.declared.data.BenchData.{BenchData}
 use Rattle.ep_drill.specs.declared.data.CoreData.{CoreData}
 use Rattle.std.specs.Prelude.{IsSome}
 use Rattle.ep_drill.specs.Stepped.{IsNoBucket}
-use Rattle.ep_drill.specs.Works.{Commits}
+use Rattle.ep_drill.specs.Works.{CommitsAt}
 use Rattle.ep_drill.proofs.EngineLemmas.{lent_at, bench_of, benched_core, stays_on}
 use Rattle.ep_drill.proofs.SteppedLemmas.{benched_ok, benched_err}
 use Rattle.ep_drill.proofs.engine.Core.commit.Goals as goal
@@ -58,7 +58,7 @@ returns-clause-committed g c =
     let at : slice_get c.self.inside.benches.items c.from.result ≡ Some c.in-Some.bench.now =
     lent_at c.self.inside.benches.items c.from.result c.in-Some.bench.now c.in-Some.ensures.item.3.0 c.in-Some.ensures.value in
     benched_ok c.args.self.now c.self.inside.config c.self.inside.world c.commit_at.new.world c.self.inside.benches.items c.self.inside.callers.items c.from.result c.args.vb c.in-Some.bench.now c.self.view_is (search rules) at
-    c.commit_at.new.bench (λ o. IsNoBucket o c.args.vb) (λ k. Commits k c.args.vb) c.commit_at.result c.commit_at.ensures.ok
+    c.commit_at.new.bench (λ o. IsNoBucket o c.args.vb) (λ k. CommitsAt k c.args.vb) c.commit_at.result c.commit_at.ensures.ok
 
 pub returns-clause-err : goal.returns-clause-err
 returns-clause-err g c =

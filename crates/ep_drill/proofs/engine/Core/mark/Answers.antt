@@ -4,7 +4,7 @@ use Rattle.vb_world.specs.World.{front_in}
 use Rattle.ep_drill.specs.declared.data.CoreData.{CoreData}
 use Rattle.ep_drill.proofs.EngineLemmas.{lent_from, bench_of, benched_world}
 use Rattle.ep_drill.specs.Stepped.{IsNowhere}
-use Rattle.ep_drill.specs.Works.{Marks}
+use Rattle.ep_drill.specs.Works.{MarksAt}
 use Rattle.ep_drill.proofs.SteppedLemmas.{stayed_ok, mark_err}
 use Rattle.ep_drill.proofs.engine.Core.mark.Goals as goal
 
@@ -56,7 +56,7 @@ returns-clause-marked g c =
     let at : slice_get c.self.inside.benches.items c.from.result ≡ Some c.in-Some.bench.now =
     lent_from c.self.inside.benches.items c.deref.result.now c.from.result c.in-Some.bench.now c.deref.ensures.value c.in-Some.ensures.lookup.3.0 c.in-Some.ensures.lookup.1 in
     stayed_ok c.args.self.now c.self.inside.config c.self.inside.world c.mark_at.new.world c.self.inside.benches.items c.self.inside.callers.items c.from.result c.args.vb c.in-Some.bench.now c.self.view_is (search rules) at
-    (λ o. IsNowhere o c.args.vb c.args.stripe) (λ k. Marks k c.args.vb c.args.stripe) c.mark_at.result c.mark_at.ensures.ok
+    (λ o. IsNowhere o c.args.vb c.args.stripe) (λ k. MarksAt k c.args.vb c.args.stripe) c.mark_at.result c.mark_at.ensures.ok
 
 pub returns-clause-err : goal.returns-clause-err
 returns-clause-err g c =

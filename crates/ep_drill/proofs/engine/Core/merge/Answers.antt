@@ -5,7 +5,7 @@ use Rattle.ep_drill.specs.declared.data.CoreData.{CoreData}
 use Rattle.ep_drill.proofs.EngineLemmas.{lent_at, bench_of, benched_core, bench_back, stays_on}
 use Rattle.ep_drill.specs.declared.data.BenchData.{BenchData}
 use Rattle.ep_drill.specs.Stepped.{IsNowhere}
-use Rattle.ep_drill.specs.Works.{Merges}
+use Rattle.ep_drill.specs.Works.{MergesAt}
 use Rattle.ep_drill.proofs.SteppedLemmas.{benched_ok, merge_err}
 use Rattle.ep_drill.proofs.engine.Core.merge.Goals as goal
 
@@ -57,7 +57,7 @@ returns-clause-merged g c =
     let at : slice_get c.self.inside.benches.items c.from.result ≡ Some c.in-Some.bench.now =
     lent_at c.self.inside.benches.items c.from.result c.in-Some.bench.now c.in-Some.ensures.item.3.0 c.in-Some.ensures.value in
     benched_ok c.args.self.now c.self.inside.config c.self.inside.world c.merge_at.new.world c.self.inside.benches.items c.self.inside.callers.items c.from.result c.args.vb c.in-Some.bench.now c.self.view_is (search rules) at
-    c.merge_at.new.bench (λ o. IsNowhere o c.args.vb c.args.stripe) (λ k. Merges k c.args.vb c.args.stripe) c.merge_at.result c.merge_at.ensures.ok
+    c.merge_at.new.bench (λ o. IsNowhere o c.args.vb c.args.stripe) (λ k. MergesAt k c.args.vb c.args.stripe) c.merge_at.result c.merge_at.ensures.ok
 
 pub returns-clause-err : goal.returns-clause-err
 returns-clause-err g c =

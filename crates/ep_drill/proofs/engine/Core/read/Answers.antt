@@ -4,7 +4,7 @@ use Rattle.vb_world.specs.World.{front_in}
 use Rattle.ep_drill.specs.declared.data.CoreData.{CoreData}
 use Rattle.ep_drill.proofs.EngineLemmas.{lent_at, bench_of, benched_still, bench_back, stays_on}
 use Rattle.ep_drill.specs.Stepped.{IsNowhere}
-use Rattle.ep_drill.specs.Works.{Fetches}
+use Rattle.ep_drill.specs.Works.{FetchesAt}
 use Rattle.ep_drill.proofs.SteppedLemmas.{benched_ok, read_err}
 use Rattle.ep_drill.proofs.engine.Core.read.Goals as goal
 
@@ -56,7 +56,7 @@ returns-clause-read g c =
     let at : slice_get c.self.inside.benches.items c.from.result ≡ Some c.in-Some.bench.now =
     lent_at c.self.inside.benches.items c.from.result c.in-Some.bench.now c.in-Some.ensures.item.3.0 c.in-Some.ensures.value in
     benched_ok c.args.self.now c.self.inside.config c.self.inside.world c.read_at.new.world c.self.inside.benches.items c.self.inside.callers.items c.from.result c.args.vb c.in-Some.bench.now c.self.view_is (search rules) at
-    c.read_at.new.bench (λ o. IsNowhere o c.args.vb c.args.stripe) (λ k. Fetches k c.args.vb c.args.stripe) c.read_at.result c.read_at.ensures.ok
+    c.read_at.new.bench (λ o. IsNowhere o c.args.vb c.args.stripe) (λ k. FetchesAt k c.args.vb c.args.stripe) c.read_at.result c.read_at.ensures.ok
 
 pub returns-clause-err : goal.returns-clause-err
 returns-clause-err g c =

@@ -4,7 +4,7 @@ use Rattle.vb_world.specs.World.{front_in}
 use Rattle.ep_drill.specs.declared.data.CoreData.{CoreData}
 use Rattle.ep_drill.proofs.EngineLemmas.{lent_at, bench_of, benched_still, stays_on}
 use Rattle.ep_drill.specs.Stepped.{IsNoBucket}
-use Rattle.ep_drill.specs.Works.{Takes}
+use Rattle.ep_drill.specs.Works.{TakesAt}
 use Rattle.ep_drill.proofs.SteppedLemmas.{benched_at}
 use Rattle.ep_drill.proofs.engine.Core.take_batch.Goals as goal
 
@@ -56,7 +56,7 @@ returns-clause-taken g c =
     let at : slice_get c.self.inside.benches.items c.from.result ≡ Some c.in-Some.bench.now =
     lent_at c.self.inside.benches.items c.from.result c.in-Some.bench.now c.in-Some.ensures.item.3.0 c.in-Some.ensures.value in
     benched_at c.args.self.now c.self.inside.config c.self.inside.world c.take_at.new.world c.self.inside.benches.items c.self.inside.callers.items c.from.result c.args.vb c.in-Some.bench.now c.self.view_is (search rules) at
-    c.take_at.new.bench (λ o. IsNoBucket o c.args.vb) (λ k. Takes k c.args.vb) c.take_at.result c.take_at.ensures.taken
+    c.take_at.new.bench (λ o. IsNoBucket o c.args.vb) (λ k. TakesAt k c.args.vb) c.take_at.result c.take_at.ensures.taken
 
 pub returns-in_default-clause-goes_on : goal.returns-in_default-clause-goes_on
 returns-in_default-clause-goes_on g c = stays_on _ _ (search rules)

@@ -1,5 +1,5 @@
 -- What the store's side answers, and what it leaves.
-use Rattle.std.specs.Prelude.{◌≡◌, ℕ, ◌^◌, ◌-◌, min, Option, Some, None}
+use Rattle.std.specs.Prelude.{◌≡◌, ℕ, ◌^◌, ◌-◌, min, true, false, Option, Some, None}
 use Rattle.ep_model.specs.declared.data.EventData.TheVariants as events
 use Rattle.ep_model.specs.declared.data.FrontData.{FrontData}
 use Rattle.ep_model.specs.World.{Docs}
@@ -27,12 +27,13 @@ IsPaged (Some (parts.Stripe x)) new paged =
 IsPaged (Some (parts.Queue q)) new paged = ⊥
 IsPaged (Some (parts.Desk d)) new paged = ⊥
 
--- A batch that stands and lays over documents the mutations that aren't stored, up to the last; or all is stored.
+-- A batch that stands and lays over documents the mutations that aren't stored, as far as these are known, up to the last; or all
+-- is stored.
 abbrev pub IsTaken : FrontData → ℕ → Option BatchData → Type 0
 IsTaken f stored None = (world_of f).high ≡ (world_of f).persisted
 IsTaken f stored (Some batch) =
     BatchStands f stored batch × (batch.to ≡ (world_of f).high) × AreDistinct batch.rows
-    × ((docs : Docs) → laid batch.rows docs ≡ laid_on docs (above (world_of f).persisted (mutations (begun f) f.events)))
+    × ((world_of f).told ≡ true → (docs : Docs) → laid batch.rows docs ≡ laid_on docs (above (world_of f).persisted (mutations (begun f) f.events)))
 
 -- the numbers under which a batch is stored
 abbrev pub state_for : BatchData → StoreState
@@ -42,10 +43,10 @@ state_for batch = record { version = 1; high = batch.to; maxcas = batch.maxcas }
 abbrev pub whole : KeeperData → BatchData → Option Content
 whole keeper batch = all_committed keeper.content batch (state_for batch)
 
--- how a commit went, and what it leaves of the history and the desk
+-- How a commit went, and what it leaves of the history and the desk. Memory is wanting only for a store whose commits may want it.
 abbrev pub IsFlushed : FrontData → FrontData → DeskData → DeskData → BatchData → Flushed → Type 0
 IsFlushed old new before desk batch (flushes.Stored number) =
     (number ≡ batch.to) × (new ≡ with_event old (events.Persisted batch.to)) × DeskStands new desk × (desk ≡ record before { keeper = record before.keeper { content = whole before.keeper batch }; stored = batch.to; noted = batch.to })
 IsFlushed old new before desk batch flushes.Failed =
     (new ≡ old) × DeskStands new desk × (desk ≡ record before { keeper = desk.keeper; doubt = Some batch.to }) × IsDoubtful before.keeper (whole before.keeper batch) desk.keeper
-IsFlushed old new before desk batch flushes.NoMemory = (new ≡ old) × (desk ≡ before)
+IsFlushed old new before desk batch flushes.NoMemory = (new ≡ old) × (desk ≡ before) × (before.keeper.roomy ≡ false)
