@@ -29,9 +29,9 @@ is_end End = true
 is_end Failed = false
 
 -- these bytes were taken from the front of what was left, where that is told
-abbrev pub Takes : Option (List ℕ) → Option (List ℕ) → List ℕ → Type 0
-Takes None new bytes = new ≡ None
-Takes (Some left) new bytes = (rest : List ℕ) × (left ≡ bytes ++ rest) × (new ≡ Some rest)
+abbrev pub TakesBytes : Option (List ℕ) → Option (List ℕ) → List ℕ → Type 0
+TakesBytes None new bytes = new ≡ None
+TakesBytes (Some left) new bytes = (rest : List ℕ) × (left ≡ bytes ++ rest) × (new ≡ Some rest)
 
 -- nothing is left, where that is told
 abbrev pub IsEmptied : Option (List ℕ) → Type 0

@@ -52,7 +52,7 @@ read_buffer source into =
 
 -- a source after a read that failed
 abbrev pub after_failed_read : SourceData → SourceData
-after_failed_read source = record source { left_before = source.left; failures = after_call source.failures; faults = raised source.faults }
+after_failed_read source = record source { left_before = source.left; ended_before = source.ended; failures = after_call source.failures; faults = raised source.faults }
 
 -- a source after a read that didn't fail
 abbrev pub after_good_read : SourceData → ℕ → SourceData
@@ -62,6 +62,7 @@ after_good_read source room = record source {
   pieces = drop 1 source.pieces;
   failures = after_call source.failures;
   ended = source.ended || is_nil (next_piece source room);
+  ended_before = source.ended;
 }
 
 -- a source after its next read

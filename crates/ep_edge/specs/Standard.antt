@@ -15,9 +15,9 @@ AppendsSome old new bytes = (count : ℕ) × (count ≤ length bytes) × Appends
 
 -- a reader's source after this answer, which left it this reader
 abbrev pub after_got : {R : Type 0} → R → ReaderData R → Got → ReaderData R
-after_got reader source (Bytes n) = record source { reader = reader }
-after_got reader source End = record source { reader = reader; ended = true }
-after_got reader source Failed = record source { reader = reader; faults = raised source.faults }
+after_got reader source (Bytes n) = record source { reader = reader; ended_before = source.ended }
+after_got reader source End = record source { reader = reader; ended = true; ended_before = source.ended }
+after_got reader source Failed = record source { reader = reader; ended_before = source.ended; faults = raised source.faults }
 
 -- a writer's sink after this answer, which left it this writer
 abbrev pub after_put : {W : Type 0} → W → WriterData W → Put → WriterData W

@@ -8,14 +8,15 @@ pub struct FailuresData {
     pub next: u128,
 }
 
-/// A `MemorySource` as clauses see it: the bytes that are left, those that were left as the last read began, and
-/// the bounds of the next reads.
+/// A `MemorySource` as clauses see it: the bytes that are left, those that were left and whether it had ended as the
+/// last read began, and the bounds of the next reads.
 pub struct SourceData {
     pub left: LinkedList<u8>,
     pub left_before: LinkedList<u8>,
     pub pieces: LinkedList<u32>,
     pub failures: FailuresData,
     pub ended: bool,
+    pub ended_before: bool,
     pub faults: u64,
 }
 
@@ -36,6 +37,7 @@ pub struct ClockData {
 pub struct ReaderData<R> {
     pub reader: R,
     pub ended: bool,
+    pub ended_before: bool,
     pub faults: u64,
 }
 

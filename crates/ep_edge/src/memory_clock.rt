@@ -1,5 +1,6 @@
 // A clock in memory.
 ghost use Rattle.std.specs.Prelude.{◌≡◌, ◌<◌, ◌^◌, ◌+◌, ℕ, All, IfSome};
+ghost use Rattle.ep_model.specs.Limits.{IsMoment};
 ghost use Rattle.ep_edge.specs.Memory.{moment_at, later};
 
 use crate::Clock;
@@ -15,6 +16,7 @@ pub struct MemoryClock {
 
 impl Model for MemoryClock {
     ghost use Rattle.std.specs.Prelude.{◌≤◌, ◌<◌, ◌-◌, ◌^◌, All, drop, length};
+    ghost use Rattle.ep_model.specs.Limits.{IsMoment};
     ghost use Rattle.ep_edge.specs.declared.data.ClockData.{ClockData};
 
     ghost Value = { ClockData };
@@ -22,13 +24,13 @@ impl Model for MemoryClock {
     ghost view = { λ c. record { moments = drop c.at c.moments.items } };
 
     ghost invariant = { λ c. (c.at ≤ length c.moments.items - 1)
-        × All (λ moment. moment < 2 ^ 62) c.moments.items };
+        × All IsMoment c.moments.items };
 }
 
 impl MemoryClock {
     /// A clock that gives these moments, in nanoseconds since 1970. Without a moment it gives 0.
     pub fn new(moments: Vec<u64>) -> MemoryClock
-        requires { All (λ moment. moment < 2 ^ 62) moments.items }
+        requires { All IsMoment moments.items }
         ensures { result ≡ record { moments = moments.items } }
     {
         MemoryClock { moments, at: 0 }
@@ -43,7 +45,7 @@ impl Clock for MemoryClock {
 
     /// Its cost is constant.
     fn now(&mut self) -> u64
-        ensures bound { result < 2 ^ 62 }
+        ensures bound { IsMoment result }
         ensures told { IfSome (Some (moment_at self.old.moments 0)) (λ m. result ≡ m) }
         ensures next { (k : ℕ) →
             Some (moment_at self.new.moments k) ≡ Some (moment_at self.old.moments (k + 1)) }

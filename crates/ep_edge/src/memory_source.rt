@@ -1,6 +1,6 @@
 // A source in memory, which tests cut and break as they like.
 ghost use Rattle.std.specs.Prelude.{◌≡◌, ◌<◌, ◌≤◌, ◌||◌, ◌+◌, ◌++◌, ℕ, true, false, length, take, drop};
-ghost use Rattle.ep_edge.specs.Edge.{Takes, IsEmptied, bytes_read, is_end, read_faults};
+ghost use Rattle.ep_edge.specs.Edge.{TakesBytes, IsEmptied, bytes_read, is_end, read_faults};
 ghost use Rattle.ep_edge.specs.Memory.{none_made, read_limit, read_answer, read_buffer, after_read};
 
 use crate::failures::Failures;
@@ -20,6 +20,8 @@ pub struct MemorySource {
     used: usize,
     failures: Failures,
     ended: bool,
+    /// Whether it had ended as the last read began.
+    ended_before: bool,
     faults: u64,
 }
 
@@ -35,6 +37,7 @@ impl Model for MemorySource {
       pieces = drop s.used s.pieces.items;
       failures = s.failures;
       ended = s.ended;
+      ended_before = s.ended_before;
       faults = s.faults;
     } };
 
@@ -53,6 +56,7 @@ impl MemorySource {
           pieces = pieces.items;
           failures = none_made fails.items;
           ended = false;
+          ended_before = false;
           faults = 0;
         } }
     {
@@ -64,6 +68,7 @@ impl MemorySource {
             used: 0,
             failures: Failures::new(fails),
             ended: false,
+            ended_before: false,
             faults: 0,
         }
     }
@@ -80,21 +85,25 @@ impl Source for MemorySource {
 
     ghost left_before = { λ s. Some s.left_before };
 
+    ghost ended_before = { λ s. s.ended_before };
+
     /// Its cost is linear in the number of bytes given and in that of the reads that fail.
     fn read(&mut self, into: &mut [u8]) -> Got
         requires { 0 < length into.old }
         ensures count { (n : ℕ) → result ≡ Got.Bytes n → (0 < n) × (n ≤ length into.new) }
-        ensures takes { Takes (Some self.old.left) (Some self.new.left) (bytes_read result into.new) }
+        ensures takes { TakesBytes (Some self.old.left) (Some self.new.left) (bytes_read result into.new) }
         ensures ended { self.new.ended ≡ (self.old.ended || is_end result) }
         ensures end { result ≡ Got.End → IsEmptied (Some self.new.left) }
         ensures after_end { (n : ℕ) → self.old.ended ≡ true → result ≡ Got.Bytes n → ⊥ }
         ensures faults { self.new.faults ≡ read_faults result self.old.faults }
         ensures before { Some self.new.left_before ≡ Some self.old.left }
+        ensures behind { self.new.ended_before ≡ self.old.ended }
         ensures answer { result ≡ read_answer self.old (length into.old) }
         ensures buffer { into.new ≡ read_buffer self.old into.old }
         ensures after { self.new ≡ after_read self.old (length into.old) }
     {
         self.given_before = self.given;
+        self.ended_before = self.ended;
         if self.failures.next_fails() {
             self.faults = self.faults.saturating_add(1);
             return Got::Failed;

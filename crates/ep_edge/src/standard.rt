@@ -3,10 +3,12 @@
 ghost use Rattle.std.specs.Prelude.{◌≡◌, ◌<◌, ◌≤◌, ◌^◌, ◌||◌, ℕ, true, false, length, take, IfSome, OnOk, OnErr};
 ghost use Rattle.std.specs.Io.{ReadsAtMost, WritesAtMost};
 ghost use Rattle.std.specs.Io.KnownBytes.{IsAtEnd, Consumes, ReadConsumes, WriteAppends, Appends as AppendsKnown};
+ghost use Rattle.ep_model.specs.Limits.{IsMoment};
 ghost use Rattle.ep_edge.specs.Edge.{AppendsFront, bytes_read, is_end, read_faults, write_faults};
 ghost use Rattle.ep_edge.specs.Standard.{AppendsSome, after_got, after_put};
 
 use crate::{Clock, Got, Put, Sink, Source};
+use ep_model::limits::END_OF_MOMENTS;
 use std::io::{ErrorKind, Read, Write};
 use std::marker::Model;
 use std::time::{SystemTime, UNIX_EPOCH};
@@ -16,7 +18,7 @@ use std::{io, rt};
 const TRIES: u32 = 1_000;
 
 /// The last moment that a clock may give.
-const LAST_MOMENT: u64 = (1 << 62) - 1;
+const LAST_MOMENT: u64 = END_OF_MOMENTS - 1;
 
 /// A source over a reader. A read of no bytes is the end, after which the reader is not asked again. A read
 /// that a signal interrupts is made again, up to 1,000 times; any other error is a failure.
@@ -24,6 +26,8 @@ const LAST_MOMENT: u64 = (1 << 62) - 1;
 pub struct ReaderSource<R> {
     reader: R,
     ended: bool,
+    /// Whether it had ended as the last read began.
+    ended_before: bool,
     faults: u64,
 }
 
@@ -32,17 +36,18 @@ impl<R> Model for ReaderSource<R> {
 
     ghost Value = { ReaderData R };
 
-    ghost view = { λ s. record { reader = s.reader; ended = s.ended; faults = s.faults } };
+    ghost view = { λ s. record { reader = s.reader; ended = s.ended; ended_before = s.ended_before; faults = s.faults } };
 }
 
 impl<R: Read + Drop> ReaderSource<R> {
     /// A source of the reader's bytes. It takes no memory.
     pub fn new(reader: R) -> ReaderSource<R>
-        ensures { result ≡ record { reader = reader; ended = false; faults = 0 } }
+        ensures { result ≡ record { reader = reader; ended = false; ended_before = false; faults = 0 } }
     {
         ReaderSource {
             reader,
             ended: false,
+            ended_before: false,
             faults: 0,
         }
     }
@@ -59,6 +64,8 @@ impl<R: Read + Drop> Source for ReaderSource<R> {
 
     ghost left_before = { λ _. None };
 
+    ghost ended_before = { λ s. s.ended_before };
+
     /// One read of the reader, unless signals interrupt it.
     fn read(&mut self, into: &mut [u8]) -> Got
         requires { 0 < length into.old }
@@ -69,9 +76,12 @@ impl<R: Read + Drop> Source for ReaderSource<R> {
         ensures bytes { Consumes (R.remaining self.old.reader) (R.remaining self.new.reader)
             (bytes_read result into.new) }
         ensures at_end { self.old.ended ≡ false → result ≡ Got.End → IsAtEnd (R.remaining self.new.reader) }
-        ensures ends_for_good { self.old.ended ≡ true → (result ≡ Got.End) × (self.new ≡ self.old) }
+        ensures behind { self.new.ended_before ≡ self.old.ended }
+        ensures ends_for_good { self.old.ended ≡ true →
+            (result ≡ Got.End) × (self.new ≡ record self.old { ended_before = true }) }
         ensures after { self.new ≡ after_got self.new.reader self.old result }
     {
+        self.ended_before = self.ended;
         if self.ended {
             return Got::End;
         }
@@ -90,7 +100,7 @@ impl<R: Read + Drop> Source for ReaderSource<R> {
 }
 
 /// A sink over a writer, which is flushed after each write. A write that a signal interrupts is made again, up
-/// to 1,000 times; any other error, and a writer that takes no byte, is a failure.
+/// to 1,000 times; any other error, a flush that a signal interrupts, and a writer that takes no byte, are failures.
 #[derive(Drop)]
 pub struct WriterSink<W> {
     writer: W,
@@ -143,7 +153,7 @@ impl<W: Write + Drop> Sink for WriterSink<W> {
 }
 
 /// A clock over the system's. Where that can't be read or stands before 1970, the last moment is given again,
-/// at first 0; a moment from the year 2116 on is given as the last one below 2^62.
+/// at first 0; a moment from the year 2116 on is given as the last one below 2^62. A clock that is set back is followed.
 #[derive(Drop)]
 pub struct SystemClock<C> {
     runtime: C,
@@ -152,13 +162,14 @@ pub struct SystemClock<C> {
 
 impl<C> Model for SystemClock<C> {
     ghost use Rattle.std.specs.Prelude.{◌<◌, ◌^◌};
+    ghost use Rattle.ep_model.specs.Limits.{IsMoment};
     ghost use Rattle.ep_edge.specs.declared.data.SystemClockData.{SystemClockData};
 
     ghost Value = { SystemClockData };
 
     ghost view = { λ c. record { last = c.last } };
 
-    ghost invariant = { λ c. c.last < 2 ^ 62 };
+    ghost invariant = { λ c. IsMoment c.last };
 }
 
 impl<C: rt::Clock + Drop> SystemClock<C> {
@@ -177,7 +188,7 @@ impl<C: rt::Clock + Drop> Clock for SystemClock<C> {
 
     /// One system call.
     fn now(&mut self) -> u64
-        ensures bound { result < 2 ^ 62 }
+        ensures bound { IsMoment result }
         ensures last { self.new.last ≡ result }
     {
         if let Some(moment) = system_moment(&self.runtime) {
@@ -189,7 +200,7 @@ impl<C: rt::Clock + Drop> Clock for SystemClock<C> {
 
 /// Nanoseconds since 1970 by the system's clock, where it can be read and isn't set before then.
 fn system_moment<C: rt::Clock>(runtime: &C) -> Option<u64>
-    ensures { IfSome result (λ moment. moment < 2 ^ 62) }
+    ensures { IfSome result IsMoment }
 {
     let since_1970 = SystemTime::now(runtime)
         .ok()?

@@ -1,6 +1,7 @@
 ghost use Rattle.std.specs.Prelude.{◌≤◌, IfOk};
 
 use super::*;
+use std::cell::Cell;
 use std::io::{ErrorKind, Read, Write};
 use std::process::Abort;
 use std::test::Fail;
@@ -178,6 +179,38 @@ fn a_reader_source_meets_trouble(rt: HostRuntime) {
 }
 
 #[test]
+fn a_read_is_made_a_thousand_times(rt: HostRuntime) {
+    for (interruptions, got, bytes) in [
+        (999, Got::Bytes(4), b"xxxx".as_slice()),
+        (1_000, Got::Failed, b"".as_slice()),
+    ] {
+        let steps = [Step::Interrupt; 1_000];
+        let mut source = ReaderSource::new(Troubled {
+            steps: &steps[..interruptions],
+            held: Vec::new(rt.alloc()),
+            flushed: 0,
+        });
+        expect_reads(&rt, &mut source, &[(got, bytes), (Got::Bytes(4), b"xxxx")]);
+    }
+}
+
+#[test]
+fn an_interrupted_flush_is_a_fault(rt: HostRuntime) {
+    let steps = [Step::Move(2), Step::Interrupt];
+    let mut writer = Troubled {
+        steps: &steps,
+        held: Vec::new(rt.alloc()),
+        flushed: 0,
+    };
+    let mut sink = WriterSink::new(&mut writer);
+    assert_eq!(rt; sink.write(b"ab"), Put::Failed);
+    assert_eq!(rt; sink.write(b"c"), Put::Done);
+    drop(sink);
+    assert!(rt; writer.held.as_slice() == b"abc".as_slice());
+    assert_eq!(rt; writer.flushed, 3);
+}
+
+#[test]
 fn a_writer_sink_goes_on_after_short_writes(rt: HostRuntime) {
     let steps = [
         Step::Move(2),
@@ -220,18 +253,23 @@ fn a_writer_sink_goes_on_after_short_writes(rt: HostRuntime) {
     assert_eq!(rt; writer.flushed, 9);
 }
 
-/// A system's clock that stands so many milliseconds after 1970, or can't be read.
+/// A system's clock that stands so many milliseconds after 1970 at each call, or can't be read. Behind the last of
+/// these it can't be read.
 #[derive(Drop)]
-struct Standing(Option<u64>);
+struct Moving<'a>(Cell<&'a [Option<u64>]>);
 
-impl rt::Clock for Standing {
+impl rt::Clock for Moving<'_> {
     fn monotonic(&self) -> io::Result<Duration> {
         self.since_1970()
     }
 
     fn since_1970(&self) -> io::Result<Duration> {
-        match self.0 {
-            Some(milliseconds) => Ok(Duration::from_millis(milliseconds)),
+        let Some((milliseconds, later)) = self.0.get().split_first() else {
+            return Err(io::Error::from(ErrorKind::Other));
+        };
+        self.0.set(later);
+        match milliseconds {
+            Some(milliseconds) => Ok(Duration::from_millis(*milliseconds)),
             None => Err(io::Error::from(ErrorKind::Other)),
         }
     }
@@ -239,19 +277,33 @@ impl rt::Clock for Standing {
 
 #[test]
 fn a_system_clock_counts_nanoseconds(rt: HostRuntime) {
-    let clocks = [
-        (None, 0),
-        (Some(1), 1_000_000),
-        (Some(4_611_686_018_427), 4_611_686_018_427_000_000),
-        (Some(5_000_000_000_000), 4_611_686_018_427_387_903),
+    let milliseconds = [
+        None,
+        Some(5),
+        None,
+        Some(7),
+        Some(6),
+        Some(4_611_686_018_427),
+        Some(5_000_000_000_000),
+        None,
+        Some(0),
     ];
-    for (milliseconds, want) in clocks {
-        expect_moments(
-            &rt,
-            &mut SystemClock::new(Standing(milliseconds)),
-            &[want, want],
-        );
-    }
+    let mut clock = SystemClock::new(Moving(Cell::new(&milliseconds)));
+
+    // Where it can't be read the last moment is given again, and a clock that is set back is followed.
+    let moments = [
+        0,
+        5_000_000,
+        5_000_000,
+        7_000_000,
+        6_000_000,
+        4_611_686_018_427_000_000,
+        4_611_686_018_427_387_903,
+        4_611_686_018_427_387_903,
+        0,
+        0,
+    ];
+    expect_moments(&rt, &mut clock, &moments);
 }
 
 #[test]

@@ -1,4 +1,4 @@
-pub mod FirstFrame
-pub mod HeldBytes
+pub mod FirstFrameLemmas
+pub mod HeldBytesLemmas
 pub mod DivisionLemmas
-pub mod Streams
+pub mod StreamLemmas

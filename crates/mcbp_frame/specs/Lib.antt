@@ -5,3 +5,4 @@ pub mod Division
 pub mod Response
 pub mod Laws
 pub mod Stream
+pub mod Piece

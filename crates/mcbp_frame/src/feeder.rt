@@ -1,13 +1,17 @@
 // Bytes in pieces of any size become whole frames and a rest.
-ghost use Rattle.std.specs.Prelude.{◌≡◌, false, ◌+◌, ◌-◌, ◌<◌, ◌≤◌, ◌^◌, ◌++◌, [], length, take, drop, min, IfOk};
+ghost use Rattle.std.specs.Prelude.{◌≡◌, false, ◌||◌, ℕ, ◌+◌, ◌-◌, ◌<◌, ◌≤◌, ◌^◌, ◌++◌, [], length, take, drop, min, IfOk};
 ghost use Rattle.std.specs.Borrow.{sem};
 ghost use Rattle.std.specs.Io.BufRead.{Rests};
+ghost use Rattle.ep_edge.specs.Edge.{TakesBytes, IsEmptied, bytes_read, is_end, read_faults};
+ghost use Rattle.mcbp_frame.specs.Division.{IsPartial};
 ghost use Rattle.mcbp_frame.specs.Feeder.{Gives, after_next};
+ghost use Rattle.mcbp_frame.specs.Piece.{Feeds, count_of};
 ghost use Rattle.mcbp_frame.specs.Header.{feeder_room};
 ghost use Rattle.mcbp_frame.specs.Frames.{IsFrame, body_length, frame_at, frame_data};
 
 use crate::frame::{Frame, HEADER, MAX_BODY, REQUEST};
 use byteorder::{BigEndian, ByteOrder};
+use ep_edge::{Got, Source};
 use ep_model::NoMemory;
 use std::alloc::Global;
 use std::collections::LinkedList;
@@ -38,8 +42,8 @@ pub enum Next<'a> {
 /// Divides a stream into frames. It holds 2,162,712 bytes, which `new` takes; no other call takes memory.
 ///
 /// A caller that takes frames until `Need` before it feeds again has each byte moved once at most, however the
-/// pieces are cut: bytes move only in `feed`, to the front of the buffer, and only those of a frame that has
-/// begun and isn't whole, where they are no more than those handed out before them or there is no room behind
+/// pieces are cut: bytes move only in `feed` and `read_from`, to the front of the buffer, and only those of a frame that
+/// has begun and isn't whole, where they are no more than those handed out before them or there is no room behind
 /// them. So a stream of short frames stays at the front of the buffer.
 #[derive(Drop)]
 pub struct Feeder {
@@ -86,14 +90,34 @@ impl Feeder {
         ensures at { self.new.at ≡ self.old.at }
     {
         let taken = piece.len().min(CAPACITY - (self.end - self.start));
-        if is_move_due(self.start, self.end, taken) {
-            move_to_front(&mut self.buffer, self.start, self.end);
-            self.end -= self.start;
-            self.start = 0;
-        }
-        write_at(&mut self.buffer, self.end, &piece[..taken]);
-        self.end += taken;
+        let (start, end) = make_way(&mut self.buffer, self.start, self.end, taken);
+        write_at(&mut self.buffer, end, &piece[..taken]);
+        self.start = start;
+        self.end = end + taken;
         taken
+    }
+
+    /// Takes the next piece of the stream from a source, which reads at most `most` bytes straight into the feeder's
+    /// room. Behind a partial frame there is always room for 65,536.
+    pub fn read_from<R: Source>(&mut self, most: usize, source: &mut R) -> Got
+        requires partial { IsPartial self.old.rest }
+        requires some { 0 < most }
+        requires piece { most ≤ 65536 }
+        requires place { self.old.at + length self.old.rest + most < 2 ^ 64 }
+        ensures feeds { Feeds result self.old.rest self.new.rest (R.left source.old) (R.left source.new) }
+        ensures at { self.new.at ≡ self.old.at }
+        ensures count { (n : ℕ) → result ≡ Got.Bytes n → (0 < n) × (n ≤ most) }
+        ensures ended { R.has_ended source.new ≡ (R.has_ended source.old || is_end result) }
+        ensures end { result ≡ Got.End → IsEmptied (R.left source.new) }
+        ensures faults { R.faults source.new ≡ read_faults result (R.faults source.old) }
+        ensures before { R.left_before source.new ≡ R.left source.old }
+        ensures behind { R.ended_before source.new ≡ R.has_ended source.old }
+    {
+        let (start, end) = make_way(&mut self.buffer, self.start, self.end, most);
+        let got = read_at(&mut self.buffer, end, most, source);
+        self.start = start;
+        self.end = end + count_of(got);
+        got
     }
 
     /// Hands out the next frame, in constant time. At anything else it changes nothing, and answers the same again.
@@ -145,6 +169,24 @@ fn is_move_due(start: usize, end: usize, taken: usize) -> bool
     end - start <= start || taken > CAPACITY - end
 }
 
+// Makes way for `count` bytes behind those from `start` to `end`, and answers where these lie then.
+fn make_way(buffer: &mut [u8], start: usize, end: usize, count: usize) -> (usize, usize)
+    requires ordered { start ≤ end }
+    requires within { end ≤ length buffer.old }
+    requires whole { length buffer.old ≡ feeder_room }
+    requires room { (end - start) + count ≤ feeder_room }
+    ensures ordered { result.0 ≤ result.1 }
+    ensures held { result.1 - result.0 ≡ end - start }
+    ensures room { result.1 + count ≤ feeder_room }
+    ensures same { take (result.1 - result.0) (drop result.0 buffer.new) ≡ take (end - start) (drop start buffer.old) }
+{
+    if is_move_due(start, end, count) {
+        move_to_front(buffer, start, end);
+        return (0, end - start);
+    }
+    (start, end)
+}
+
 // Moves the bytes from `start` to `end` to the front.
 fn move_to_front(buffer: &mut [u8], start: usize, end: usize)
     requires ordered { start ≤ end }
@@ -160,6 +202,32 @@ fn write_at(buffer: &mut [u8], at: usize, bytes: &[u8])
     ensures { buffer.new ≡ take at buffer.old ++ bytes.now ++ drop (at + length bytes.now) buffer.old }
 {
     buffer[at..at + bytes.len()].copy_from_slice(bytes);
+}
+
+// How many bytes a read gave.
+fn count_of(got: Got) -> usize
+    ensures { result ≡ count_of got }
+{
+    match got {
+        Got::Bytes(count) => count,
+        Got::End | Got::Failed => 0,
+    }
+}
+
+// Reads at most `most` bytes to the place `at` on.
+fn read_at<R: Source>(buffer: &mut [u8], at: usize, most: usize, source: &mut R) -> Got
+    requires some { 0 < most }
+    requires within { at + most ≤ length buffer.old }
+    ensures takes { TakesBytes (R.left source.old) (R.left source.new) (bytes_read result (drop at buffer.new)) }
+    ensures kept { take at buffer.new ≡ take at buffer.old }
+    ensures count { (n : ℕ) → result ≡ Got.Bytes n → (0 < n) × (n ≤ most) }
+    ensures ended { R.has_ended source.new ≡ (R.has_ended source.old || is_end result) }
+    ensures end { result ≡ Got.End → IsEmptied (R.left source.new) }
+    ensures faults { R.faults source.new ≡ read_faults result (R.faults source.old) }
+    ensures before { R.left_before source.new ≡ R.left source.old }
+    ensures behind { R.ended_before source.new ≡ R.has_ended source.old }
+{
+    source.read(&mut buffer[at..at + most])
 }
 
 // What comes next where a feeder holds `rest`, whose first byte has the place `at`.

@@ -5,8 +5,8 @@ ghost use Rattle.mcbp_frame.specs.Response.{response};
 use crate::frame::RESPONSE;
 use ep_model::Out;
 
-/// Appends one response frame. The lengths of the extras, the key and the body fit 8, 16 and 32 bits. Its cost
-/// is linear in the frame's length.
+/// Appends one response frame. The lengths of the extras and the key fit 8 and 16 bits, and of that of the body 32
+/// bits are written. Its cost is linear in the frame's length.
 pub fn put_response(
     out: &mut Out,
     opcode: u8,
@@ -21,7 +21,6 @@ pub fn put_response(
     requires spare { 24 + length extras.now + length key.now + length value.now ≤ out.old.spare }
     requires extras_fit { length extras.now < 2 ^ 8 }
     requires key_fits { length key.now < 2 ^ 16 }
-    requires body_fits { length extras.now + length key.now + length value.now < 2 ^ 32 }
 
     ensures bytes { out.new.bytes ≡ out.old.bytes ++ response opcode status opaque cas datatype extras.now key.now value.now }
     ensures spare { out.new.spare + (24 + length extras.now + length key.now + length value.now) ≡ out.old.spare }
@@ -29,7 +28,8 @@ pub fn put_response(
     let extras_len = extras.len() as u8;
     let [k0, k1] = (key.len() as u16).to_be_bytes();
     let [s0, s1] = status.to_be_bytes();
-    let [b0, b1, b2, b3] = ((extras.len() + key.len() + value.len()) as u32).to_be_bytes();
+    let body_len = (extras.len() + key.len() + value.len()) as u64;
+    let [_, _, _, _, b0, b1, b2, b3] = body_len.to_be_bytes();
     let [o0, o1, o2, o3] = opaque.to_be_bytes();
     let [c0, c1, c2, c3, c4, c5, c6, c7] = cas.to_be_bytes();
     out.push(&[

@@ -1,4 +1,8 @@
+ghost use Rattle.std.specs.Prelude.{◌≡◌, true};
+ghost use Rattle.mcbp_frame.specs.Division.{IsPartial};
+
 use super::*;
+use ep_edge::{Got, MemorySource};
 use ep_model::Out;
 use std::alloc::Global;
 use std::process::Abort;
@@ -70,6 +74,34 @@ fn frames_do_not_depend_on_the_pieces(rt: HostRuntime) -> Result<(), Fail> {
     check_cut(&rt, rt.alloc(), 0, 1)
 }
 
+// Whether a feeder holds less than a frame.
+fn needs_more(feeder: &mut Feeder) -> bool
+    ensures { result ≡ true → IsPartial feeder.new.rest }
+{
+    match feeder.next() {
+        Next::Need => true,
+        Next::Frame(_) | Next::BadMagic { .. } | Next::TooLong { .. } => false,
+    }
+}
+
+#[test]
+fn a_source_reads_into_the_feeder(rt: HostRuntime) -> Result<(), Fail> {
+    let alloc = rt.alloc();
+    let stream = STREAM.to_vec(alloc)?;
+    let mut source = MemorySource::new(stream, vec![in alloc; 40]?, Vec::new(alloc));
+    let mut feeder = Feeder::new(alloc)?;
+    let mut seen = 0;
+    for (got, frames) in [(Got::Bytes(40), 1), (Got::Bytes(26), 2), (Got::End, 2)] {
+        assert!(rt; needs_more(&mut feeder));
+        assert!(rt; feeder.at() < 100);
+        assert!(rt; feeder.rest() < 100);
+        assert_eq!(rt; feeder.read_from(50, &mut source), got);
+        seen = frames_after(&rt, &mut feeder, &[], seen);
+        assert_eq!(rt; seen, frames);
+    }
+    Ok(())
+}
+
 #[test]
 fn another_first_byte_is_refused_each_time(rt: HostRuntime) -> Result<(), Fail> {
     let mut feeder = Feeder::new(rt.alloc())?;
@@ -97,12 +129,12 @@ fn a_cleared_feeder_begins_a_new_stream(rt: HostRuntime) -> Result<(), Fail> {
 #[test]
 fn a_body_has_a_limit(rt: HostRuntime) -> Result<(), Fail> {
     for (low, is_long) in [(0, false), (1, true)] {
-        let mut header = [0; HEADER];
-        header[0] = REQUEST;
+        let mut header = [0; 24];
+        header[0] = 0x80;
         header[9] = 0x20;
         header[11] = low;
         let mut feeder = Feeder::new(rt.alloc())?;
-        assert_eq!(rt; feeder.feed(&header), HEADER);
+        assert_eq!(rt; feeder.feed(&header), 24);
         let next = feeder.next();
         assert_eq!(rt;
             matches!(next, Next::TooLong { at: 0 }),

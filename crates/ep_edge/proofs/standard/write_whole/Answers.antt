@@ -1,5 +1,5 @@
 use Rattle.std.proofs.Common.{arith}
-use Rattle.ep_edge.proofs.Pieces.{appends_more}
+use Rattle.ep_edge.proofs.PieceLemmas.{appends_more}
 use Rattle.ep_edge.proofs.standard.write_whole.Goals as goal
 
 pub loop-written-preserved : goal.loop-written-preserved

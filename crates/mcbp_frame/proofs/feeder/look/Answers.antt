@@ -1,7 +1,7 @@
 use Rattle.std.proofs.Common.{◌≡◌, ℕ, ◌+◌, arith, take, subst}
 use Rattle.mcbp_frame.specs.Header.{header_length}
 use Rattle.mcbp_frame.specs.Frames.{IsFrame, frame_at, frame_data}
-use Rattle.mcbp_frame.proofs.FirstFrame.{IsFrame-take}
+use Rattle.mcbp_frame.proofs.FirstFrameLemmas.{IsFrame-take}
 use Rattle.mcbp_frame.proofs.feeder.look.Goals as goal
 
 pub frame_of-requires : goal.frame_of-requires

@@ -1,4 +1,4 @@
-use Rattle.mcbp_frame.proofs.Streams as streams
+use Rattle.mcbp_frame.proofs.StreamLemmas as streams
 use Rattle.mcbp_frame.proofs.laws.stream_divides.Goals as goal
 
 pub returns : goal.returns

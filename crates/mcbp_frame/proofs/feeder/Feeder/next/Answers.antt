@@ -1,5 +1,5 @@
 use Rattle.std.proofs.Common.{refl}
-use Rattle.mcbp_frame.proofs.HeldBytes.{held-after_frame}
+use Rattle.mcbp_frame.proofs.HeldBytesLemmas.{held-after_frame}
 use Rattle.mcbp_frame.proofs.feeder.Feeder.next.Goals as goal
 
 pub returns-in-Frame : goal.returns-in-Frame

@@ -1,7 +1,11 @@
 -- The bytes that a buffer holds from one place to another.
-use Rattle.std.proofs.Common.{◌≡◌, ℕ, ◌+◌, ◌-◌, ◌≤◌, List, ◌++◌, length, take, drop, refl, ap, ◌∙◌, arith, length-append}
+use Rattle.std.proofs.Common.{◌≡◌, ℕ, ◌+◌, ◌-◌, ◌≤◌, ◌<◌, List, ◌++◌, length, take, drop, refl, ap, ◌∙◌, sym, arith, length-append}
 use Rattle.std.proofs.lemmas.List.{drop-take, drop-drop, length-drop, length-take, length-take-le, drop-append-le}
-use Rattle.std.proofs.Math.Seq.{take-append_seam}
+use Rattle.std.proofs.Math.Seq.{take-append_seam, take-add}
+use Rattle.ep_edge.specs.declared.source.Got.{Got}
+use Rattle.ep_edge.specs.declared.source.Got.TheVariants as gots
+use Rattle.ep_edge.specs.Edge.{bytes_read}
+use Rattle.mcbp_frame.specs.Piece.{count_of}
 use Rattle.mcbp_frame.specs.declared.frame.Frame.{Frame}
 use Rattle.mcbp_frame.specs.declared.frame.FrameData.{FrameData}
 use Rattle.mcbp_frame.specs.declared.feeder.FeederData.{FeederData}
@@ -9,7 +13,7 @@ use Rattle.mcbp_frame.specs.Header.{header_length}
 use Rattle.mcbp_frame.specs.Frames.{frame_length, IsFrame, frame_at, frame_data}
 use Rattle.mcbp_frame.specs.Feeder.{first_frame, after_next}
 use Rattle.mcbp_frame.specs.declared.feeder.Next.TheVariants as nexts
-use Rattle.mcbp_frame.proofs.FirstFrame.{body_length-take}
+use Rattle.mcbp_frame.proofs.FirstFrameLemmas.{body_length-take}
 
 -- what a buffer holds from one place to another, as a feeder
 abbrev held : List ℕ → ℕ → ℕ → ℕ → FeederData
@@ -62,3 +66,25 @@ held-write buffer bytes start end n long ordered within =
     let kept : drop start (take end buffer) ≡ take (end - start) (drop start buffer) = ap (λ (m : ℕ). drop start (take m buffer)) split ∙ drop-take start (end - start) buffer in
     let all : end + n - start ≡ length (drop start (take end buffer) ++ bytes) = omega (arith, length-append (drop start (take end buffer)) bytes, length-drop start (take end buffer)) in
     rw (outer, inner, all, take-append_seam (drop start (take end buffer) ++ bytes) behind, kept) refl
+
+-- n bytes that stand behind the rest, whose own bytes stayed
+pub held-read : (old new : List ℕ) (start end n : ℕ) → start ≤ end → take end new ≡ take end old → take (end + n - start) (drop start new) ≡ take (end - start) (drop start old) ++ take n (drop end new)
+held-read old new start end n ordered same =
+    let split : end ≡ start + (end - start) = omega arith in
+    let cut : (buffer : List ℕ) → drop start (take end buffer) ≡ take (end - start) (drop start buffer) = λ buffer. ap (λ (m : ℕ). drop start (take m buffer)) split ∙ drop-take start (end - start) buffer in
+    let longer : end + n - start ≡ (end - start) + n = omega arith in
+    let behind : drop (end - start) (drop start new) ≡ drop end new = drop-drop (end - start) start new ∙ ap (λ (m : ℕ). drop m new) (sym split) in
+    ap (λ (m : ℕ). take m (drop start new)) longer ∙ take-add (end - start) n (drop start new)
+    ∙ ap (λ (l : List ℕ). l ++ take n (drop (end - start) (drop start new))) (sym (cut new) ∙ ap (λ (l : List ℕ). drop start l) same ∙ cut old)
+    ∙ ap (λ (l : List ℕ). take (end - start) (drop start old) ++ take n l) behind
+
+-- what a read gave are so many of the bytes that it was given room for
+pub read_piece : (got : Got) (n : ℕ) (into : List ℕ) → n ≡ count_of got → bytes_read got into ≡ take n into
+read_piece (gots.Bytes count) n into is = ap (λ (m : ℕ). take m into) (sym is)
+read_piece gots.End n into is = ap (λ (m : ℕ). take m into) (sym is)
+read_piece gots.Failed n into is = ap (λ (m : ℕ). take m into) (sym is)
+
+pub read_count : (got : Got) (most : ℕ) → ((n : ℕ) → got ≡ gots.Bytes n → (0 < n) × (n ≤ most)) → count_of got ≤ most
+read_count (gots.Bytes count) most within = (within count refl).1
+read_count gots.End most within = omega arith
+read_count gots.Failed most within = omega arith

@@ -10,15 +10,15 @@ use Rattle.ep_edge.specs.declared.data.SourceData.{SourceData}
 use Rattle.ep_edge.specs.Memory.{is_failing, after_call, read_limit, next_piece, is_nil, after_read}
 
 -- a source after a read that gives a piece, by its fields
-pub after_piece : (source : SourceData) (room : ℕ) (left left_before pieces : List ℕ) (failures : FailuresData) (ended : Bool) (faults : ℕ) →
+pub after_piece : (source : SourceData) (room : ℕ) (left left_before pieces : List ℕ) (failures : FailuresData) (ended ended_before : Bool) (faults : ℕ) →
     is_failing source.failures ≡ false → left ≡ drop (read_limit source.pieces room) source.left → left_before ≡ source.left →
     pieces ≡ drop 1 source.pieces → failures ≡ after_call source.failures →
-    ended ≡ (source.ended || is_nil (next_piece source room)) → faults ≡ source.faults →
+    ended ≡ (source.ended || is_nil (next_piece source room)) → ended_before ≡ source.ended → faults ≡ source.faults →
     ◌≡◌ {A = SourceData}
-    (record { left = left; left_before = left_before; pieces = pieces; failures = failures; ended = ended; faults = faults })
+    (record { left = left; left_before = left_before; pieces = pieces; failures = failures; ended = ended; ended_before = ended_before; faults = faults })
     (after_read source room)
-after_piece source room left left_before pieces failures ended faults good e_left e_before e_pieces e_failures e_ended e_faults =
-    rw (good, e_left, e_before, e_pieces, e_failures, e_ended, e_faults)
+after_piece source room left left_before pieces failures ended ended_before faults good e_left e_before e_pieces e_failures e_ended e_ended_before e_faults =
+    rw (good, e_left, e_before, e_pieces, e_failures, e_ended, e_ended_before, e_faults)
 
 -- a count of used pieces that stops at their number
 pub drop-used : (pieces : List ℕ) (used : ℕ) → used ≤ length pieces →
