@@ -1,6 +1,5 @@
 -- A connection that has served nothing.
 use Rattle.std.specs.Prelude.{◌≡◌, ℕ, ◌+◌, [], false}
-use Rattle.ep_model.specs.Limits.{max_key, max_value}
 use Rattle.conn_core.specs.declared.conn.Conn.{Conn}
 
 pub record IsNew (c : Conn) : Type 0 where
@@ -12,6 +11,6 @@ pub record IsNew (c : Conn) : Type 0 where
 abbrev pub out_room : ℕ
 out_room = 4194304
 
--- how many bytes of a value it holds: the longest value and the longest key
-abbrev pub value_room : ℕ
-value_room = max_value + max_key
+-- how many of them have to be free before a frame is sorted
+abbrev pub answer_room : ℕ
+answer_room = 3145728

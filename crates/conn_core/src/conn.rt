@@ -8,7 +8,7 @@ ghost use Rattle.conn_core.specs.Acts.{act_data, act_of, own_text, features_afte
 
 use crate::act::Act;
 use crate::hello::{Features, asks_seqno};
-use ep_model::limits::{MAX_KEY, MAX_VALUE};
+use ep_model::limits::VALUE_ROOM;
 use ep_model::{NoMemory, Out, status};
 use mcbp_frame::{Frame, HEADER, put_response};
 use mcbp_ops::{Op, is_silent, read_call};
@@ -16,12 +16,6 @@ use std::alloc::Global;
 
 /// How many bytes of answers a connection holds.
 pub const OUT_ROOM: usize = 4_194_304;
-
-/// How many bytes of a value a connection holds: the longest value and the longest key.
-pub const VALUE_ROOM: usize = MAX_VALUE + MAX_KEY;
-
-/// What has to be free in the output before a frame is sorted.
-pub const ANSWER_ROOM: usize = 3_145_728;
 
 /// A connection: the answers that aren't written yet, room for a value, and the features that the last Hello
 /// granted. All its memory is taken by `new`.
@@ -33,7 +27,8 @@ pub struct Conn {
 }
 
 impl Conn {
-    ghost use Rattle.conn_core.specs.Conns.{IsNew, out_room, value_room};
+    ghost use Rattle.ep_model.specs.Limits.{value_room};
+    ghost use Rattle.conn_core.specs.Conns.{IsNew, out_room, answer_room};
 
     /// A connection with empty buffers and no feature.
     pub fn new(alloc: Global) -> Result<Conn, NoMemory>
@@ -59,9 +54,9 @@ impl Conn {
 
     /// Reads a frame, and answers what the connection answers by itself: a refused frame, Noop, Version, Hello and
     /// Quit, and with 07 a call on a vBucket that there isn't. It takes no memory and constant time, but for a Hello,
-    /// whose cost is linear in its codes.
+    /// whose cost is linear in its codes. 3 MiB of the output have to be free.
     pub fn sort_frame<'a>(&mut self, frame: &Frame<'a>, vbuckets: u16) -> Act<'a>
-        requires { ANSWER_ROOM ≤ self.old.out.spare }
+        requires { answer_room ≤ self.old.out.spare }
         ensures act { act_data result ≡ act_of vbuckets (frame_data frame.now) }
         ensures ready { IsReady (frame_data frame.now) (act_of vbuckets (frame_data frame.now)) }
         ensures text { self.new.out.bytes ≡ self.old.out.bytes ++ own_text vbuckets (frame_data frame.now) }

@@ -1,2 +1,3 @@
-pub mod Shapes
-pub mod Served
+pub mod ShapeLemmas
+pub mod ServedLemmas
+pub mod TextLemmas

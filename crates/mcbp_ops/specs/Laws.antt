@@ -1,5 +1,6 @@
 -- Laws of the table of opcodes.
-use Rattle.std.specs.Prelude.{◌≡◌, ◌≢◌, ℕ, false, List, [], ◌∷◌, Ok, IsOk}
+use Rattle.std.specs.Prelude.{◌≡◌, ◌≢◌, ◌≤◌, ◌+◌, ℕ, Bool, false, List, [], ◌∷◌, length, Ok, IsOk}
+use Rattle.ep_model.specs.declared.call.Reply.{Reply}
 use Rattle.std.specs.List.{AllByRecursion}
 use Rattle.mcbp_frame.specs.declared.frame.FrameData.{FrameData}
 use Rattle.mcbp_frame.specs.Frames.{IsFrame, frame_at}
@@ -7,7 +8,7 @@ use Rattle.mcbp_ops.specs.declared.kind.Kind.{Kind}
 use Rattle.mcbp_ops.specs.declared.op.Bad.{Bad}
 use Rattle.mcbp_ops.specs.Table.{kind_of}
 use Rattle.mcbp_ops.specs.Ops.{bad_status, op_of}
-use Rattle.mcbp_ops.specs.Text.{is_silent}
+use Rattle.mcbp_ops.specs.Text.{is_silent, reply_text}
 
 -- these bytes are a frame of the opcode that isn't refused
 pub record IsServed (opcode : ℕ) (bytes : List ℕ) : Type 0 where
@@ -36,3 +37,7 @@ QuietReadsAsPlain = AllByRecursion ReadsAsPlain quiet_forms
 -- no quiet opcode hides that its frame is refused, but for the quiet Quit
 abbrev pub RefusalsAreWritten : Type 0
 RefusalsAreWritten = (opcode : ℕ) (bad : Bad) → opcode ≢ 0x17 → is_silent opcode (bad_status bad) ≡ false
+
+-- no text of a reply is longer than a header, the extras of a mutation, the key and the value
+abbrev pub ReplyTextFits : Type 0
+ReplyTextFits = (f : FrameData) (reply : Reply) (value : List ℕ) (seqno_feature : Bool) → length (reply_text f reply value seqno_feature) ≤ 40 + f.key_len + length value

@@ -11,7 +11,9 @@ mod read;
 mod shape;
 mod text;
 
-pub use laws::{each_opcode_is_served, quiet_reads_as_plain, refusals_are_written};
+pub use laws::{
+    each_opcode_is_served, quiet_reads_as_plain, refusals_are_written, reply_text_fits,
+};
 pub use op::{Bad, Op, OpData};
 pub use read::read_call;
 pub use text::{is_silent, reply_text};

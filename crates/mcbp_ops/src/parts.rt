@@ -26,3 +26,13 @@ pub fn parts_of<'a>(frame: &Frame<'a>) -> Parts<'a>
     let (key, value) = rest.split_at(frame.key_len as usize);
     Parts { extras, key, value }
 }
+
+/// The key of a frame, as far as its body goes: what isn't refused has the whole key in its body.
+pub fn key_of<'a>(frame: &Frame<'a>) -> &'a [u8]
+    ensures key { result.now ≡ key_of (frame_data frame.now) }
+    ensures fits { length result.now < 2 ^ 16 }
+{
+    let body = frame.body;
+    let rest = &body[(frame.extras_len as usize).min(body.len())..];
+    &rest[..(frame.key_len as usize).min(rest.len())]
+}

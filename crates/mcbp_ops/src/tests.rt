@@ -1,5 +1,5 @@
 // The table of opcodes and the texts of replies, with their numbers written out.
-ghost use Rattle.std.specs.Prelude.{◌≡◌};
+ghost use Rattle.std.specs.Prelude.{◌≡◌, ◌≤◌, ◌+◌, length};
 
 use crate::{Bad, Op, is_silent, read_call, reply_text};
 use ep_model::{Call, Out, Reply, StoreKind, VbState};
@@ -331,13 +331,20 @@ const TEXTS: [Text; 12] = [
     ),
 ];
 
+// Appends the text of a reply where there is room for the longest.
+fn put_text(frame: &Frame, reply: &Reply, value: &[u8], seqno_feature: bool, out: &mut Out)
+    requires { 40 + frame.now.key_len + length value.now ≤ out.old.spare }
+{
+    reply_text(frame, reply, value, seqno_feature, out);
+}
+
 // Checks the text of the reply to a frame of the key `key`.
 fn check_text(rt: &impl Abort, alloc: Global, case: Text) -> Result<(), Fail> {
     let (opcode, status, seqno_feature, text) = case;
     let mut out = Out::new(alloc, 64)?;
     let reply = Reply { status, ..STORED };
     let request = frame(opcode, 0, 0, 3, b"key");
-    reply_text(&request, &reply, b"12345678", seqno_feature, &mut out);
+    put_text(&request, &reply, b"12345678", seqno_feature, &mut out);
     assert_eq!(rt; out.bytes(), text, "opcode {opcode}");
     assert_eq!(rt;
         is_silent(opcode, status),

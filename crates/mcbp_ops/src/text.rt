@@ -6,7 +6,7 @@ ghost use Rattle.mcbp_ops.specs.Text.{is_silent, answer_text, mutation_extras, s
 
 use crate::kind::{Kind, kind_of};
 use crate::opcodes::*;
-use crate::parts::parts_of;
+use crate::parts::key_of;
 use byteorder::{BigEndian, ByteOrder};
 use ep_model::status::{KEY_NOT_FOUND, SUCCESS};
 use ep_model::{Out, Reply};
@@ -35,10 +35,9 @@ pub fn is_silent(opcode: u8, status: u16) -> bool
 
 // Appends a response to a frame, of no data type.
 fn put(out: &mut Out, frame: &Frame, status: u16, cas: u64, extras: &[u8], key: &[u8], value: &[u8])
-    requires spare { 24 + length extras.now + length key.now + length value.now ≤ out.old.spare }
+    requires spare { length (answer_text (frame_data frame.now) status cas extras.now key.now value.now) ≤ out.old.spare }
     requires extras_fit { length extras.now < 2 ^ 8 }
     requires key_fits { length key.now < 2 ^ 16 }
-    requires body_fits { length extras.now + length key.now + length value.now < 2 ^ 32 }
     ensures bytes { out.new.bytes ≡ out.old.bytes ++ answer_text (frame_data frame.now) status cas extras.now key.now value.now }
     ensures room { out.new.spare + length out.new.bytes ≡ out.old.spare + length out.old.bytes }
 {
@@ -67,8 +66,7 @@ fn stamp_of(reply: &Reply) -> [u8; 16]
 
 // Appends the success of a mutation, which shows its uuid and its sequence number where that is asked for.
 fn put_mutation(out: &mut Out, frame: &Frame, reply: &Reply, value: &[u8], seqno_feature: bool)
-    requires spare { 24 + 16 + length value.now ≤ out.old.spare }
-    requires body_fits { 16 + length value.now < 2 ^ 32 }
+    requires { length (answer_text (frame_data frame.now) SUCCESS reply.now.cas (mutation_extras reply.now seqno_feature) [] value.now) ≤ out.old.spare }
     ensures bytes { out.new.bytes ≡ out.old.bytes ++ answer_text (frame_data frame.now) SUCCESS reply.now.cas (mutation_extras reply.now seqno_feature) [] value.now }
     ensures room { out.new.spare + length out.new.bytes ≡ out.old.spare + length out.old.bytes }
 {
@@ -89,9 +87,7 @@ fn put_success(
     value: &[u8],
     seqno_feature: bool,
 )
-    requires head { frame.now.extras_len + frame.now.key_len ≤ length frame.now.body.now }
-    requires spare { 24 + 16 + frame.now.key_len + length value.now ≤ out.old.spare }
-    requires body_fits { 16 + frame.now.key_len + length value.now < 2 ^ 32 }
+    requires { length (success_text (frame_data frame.now) reply.now value.now seqno_feature kind) ≤ out.old.spare }
     ensures bytes { out.new.bytes ≡ out.old.bytes ++ success_text (frame_data frame.now) reply.now value.now seqno_feature kind }
     ensures room { out.new.spare + length out.new.bytes ≡ out.old.spare + length out.old.bytes }
 {
@@ -101,9 +97,7 @@ fn put_success(
         Kind::Get { keyed: false } | Kind::Touch { fetch: true } => {
             put(out, frame, SUCCESS, cas, &flags, &[], value)
         }
-        Kind::Get { keyed: true } => {
-            put(out, frame, SUCCESS, cas, &flags, parts_of(frame).key, value)
-        }
+        Kind::Get { keyed: true } => { put(out, frame, SUCCESS, cas, &flags, key_of(frame), value) }
         Kind::Touch { fetch: false } => put(out, frame, SUCCESS, cas, &[], &[], &[]),
         Kind::Store(_) | Kind::Join { .. } | Kind::Delete => {
             put_mutation(out, frame, reply, &[], seqno_feature)
@@ -120,11 +114,10 @@ fn put_success(
 
 /// Appends the text of a reply to a frame: nothing where the opcode is quiet about it, and else one response. A success
 /// shows the CAS, and by opcode the flags, the key, the value, and where `seqno_feature` is on the uuid and the sequence
-/// number of a mutation; another status stands alone. Its cost is linear in the lengths of key and value.
+/// number of a mutation; another status stands alone. Its cost is linear in the lengths of key and value. Its text is no
+/// longer than 40 bytes with the key and the value (`reply_text_fits`).
 pub fn reply_text(frame: &Frame, reply: &Reply, value: &[u8], seqno_feature: bool, out: &mut Out)
-    requires head { frame.now.extras_len + frame.now.key_len ≤ length frame.now.body.now }
-    requires spare { 24 + 16 + frame.now.key_len + length value.now ≤ out.old.spare }
-    requires body_fits { 16 + frame.now.key_len + length value.now < 2 ^ 32 }
+    requires { length (reply_text (frame_data frame.now) reply.now value.now seqno_feature) ≤ out.old.spare }
     ensures bytes { out.new.bytes ≡ out.old.bytes ++ reply_text (frame_data frame.now) reply.now value.now seqno_feature }
     ensures room { out.new.spare + length out.new.bytes ≡ out.old.spare + length out.old.bytes }
 {

@@ -1,4 +1,4 @@
-use Rattle.mcbp_ops.proofs.Served.{quiet_as_plain}
+use Rattle.mcbp_ops.proofs.ServedLemmas.{quiet_as_plain}
 use Rattle.mcbp_ops.proofs.laws.quiet_reads_as_plain.Goals as goal
 
 pub returns : goal.returns

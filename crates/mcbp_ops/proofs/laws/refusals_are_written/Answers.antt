@@ -1,4 +1,4 @@
-use Rattle.mcbp_ops.proofs.Served.{refusals_written}
+use Rattle.mcbp_ops.proofs.ServedLemmas.{refusals_written}
 use Rattle.mcbp_ops.proofs.laws.refusals_are_written.Goals as goal
 
 pub returns : goal.returns

@@ -1,6 +1,6 @@
 use Rattle.std.proofs.Common.{rules}
 use Rattle.mcbp_frame.specs.Frames.{frame_data}
-use Rattle.mcbp_ops.proofs.Shapes.{within_made}
+use Rattle.mcbp_ops.proofs.ShapeLemmas.{within_made}
 use Rattle.mcbp_ops.proofs.read.read_call.Goals as goal
 
 pub returns-clause-within : goal.returns-clause-within
