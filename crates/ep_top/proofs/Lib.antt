@@ -1,7 +1,6 @@
-pub mod Fronts
-pub mod Stands
-pub mod Pieces
-pub mod Sessions
-pub mod Ends
-pub mod Words
-pub mod OneEnd
+pub mod ResponderLemmas
+pub mod StandLemmas
+pub mod SessionLemmas
+pub mod EndLemmas
+pub mod WordLemmas
+pub mod OneEndLemmas

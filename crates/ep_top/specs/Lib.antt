@@ -1,9 +1,8 @@
-pub mod Calls
+pub mod AnswersCall
 pub mod End
 pub mod Exchange
-pub mod Front
+pub mod Responder
 pub mod Laws
 pub mod Outside
 pub mod Session
 pub mod Stand
-pub mod Piece

@@ -1,12 +1,13 @@
 -- What source, sink and clock tell at one moment of the program.
-use Rattle.std.specs.Prelude.{ℕ, Bool, List, Option}
+use Rattle.std.specs.Prelude.{◌≡◌, ℕ, Bool, List, Option}
 
 pub record Outside : Type 0 where
-  -- the bytes that the source has left and had left as its last read began, whether it has answered its end, and
-  -- how often it failed
+  -- the bytes that the source has left and had left as its last read began, whether it has answered its end and had
+  -- as its last read began, and how often it failed
   pub left : Option (List ℕ)
   pub left_before : Option (List ℕ)
   pub has_ended : Bool
+  pub ended_before : Bool
   pub read_faults : ℕ
   -- the bytes that the sink holds, and how often it failed
   pub held : Option (List ℕ)
@@ -15,5 +16,15 @@ pub record Outside : Type 0 where
   pub moment : ℕ → Option ℕ
 
 -- what they tell, put together
-abbrev pub outside : Option (List ℕ) → Option (List ℕ) → Bool → ℕ → Option (List ℕ) → ℕ → (ℕ → Option ℕ) → Outside
-outside left left_before has_ended read_faults held write_faults moment = record { left = left; left_before = left_before; has_ended = has_ended; read_faults = read_faults; held = held; write_faults = write_faults; moment = moment }
+abbrev pub outside : Option (List ℕ) → Option (List ℕ) → Bool → Bool → ℕ → Option (List ℕ) → ℕ → (ℕ → Option ℕ) → Outside
+outside left left_before has_ended ended_before read_faults held write_faults moment = record { left = left; left_before = left_before; has_ended = has_ended; ended_before = ended_before; read_faults = read_faults; held = held; write_faults = write_faults; moment = moment }
+
+-- what the source told as its last read began is what it tells at this moment
+pub record BeganAt (mid now : Outside) : Type 0 where
+  pub left : now.left_before ≡ mid.left
+  pub ended : now.ended_before ≡ mid.has_ended
+
+-- it wasn't read in between
+pub record IsReadNoMore (mid now : Outside) : Type 0 where
+  pub left : now.left_before ≡ mid.left_before
+  pub ended : now.ended_before ≡ mid.ended_before

@@ -1,23 +1,24 @@
 -- What a session does: the bytes it takes, the frames it serves, the history, what it writes, and how it ends.
 use Rattle.std.specs.Prelude.{◌≡◌, ◌≢◌, ◌⊎◌, ℕ, ◌+◌, ◌<◌, ◌≤◌, Bool, true, false, List, [], ◌∷◌, ◌++◌, length, Option, codes}
-use Rattle.std.specs.List.{concat, flat_map}
+use Rattle.std.specs.List.{flat_map}
 use Rattle.ep_model.specs.Legal.{IsLegal}
 use Rattle.ep_model.specs.declared.data.EventData.{EventData}
 use Rattle.ep_model.specs.declared.data.EventData.TheVariants.{Opened}
 use Rattle.ep_model.specs.Counts.{RoseByOne}
-use Rattle.ep_edge.specs.Edge.{Takes, IsEmptied, Appends}
+use Rattle.ep_edge.specs.Edge.{TakesBytes, IsEmptied, Appends}
 use Rattle.mcbp_frame.specs.Division.{Divides, HasBadMagic, IsTooLong, IsPartial}
 use Rattle.mcbp_frame.specs.declared.feeder.FeederData.{FeederData}
+use Rattle.mcbp_frame.specs.Stream.{HasCut}
 use Rattle.conn_core.specs.declared.hello.Features.{Features}
 use Rattle.vb_world.specs.History.{events_of, under}
 use Rattle.ep_top.specs.declared.end.End.{End}
 use Rattle.ep_top.specs.declared.end.End.TheVariants as ends
-use Rattle.ep_top.specs.declared.front.Front.{Front}
+use Rattle.ep_top.specs.declared.responder.Responder.{Responder}
 use Rattle.conn_core.specs.Exchange.{Exchange, AreMoments}
 use Rattle.ep_top.specs.Exchange.{event_of, texts_of, StopsAtQuit}
-use Rattle.ep_top.specs.Front.{session_front, IsLegalHistory, IsSound}
+use Rattle.ep_top.specs.Responder.{session_front, IsLegalHistory, IsSound}
 use Rattle.ep_top.specs.Outside.{Outside}
-use Rattle.ep_top.specs.Stand.{Stand, stand, bytes_of, Serves, Writes, is_quit_end}
+use Rattle.ep_top.specs.Stand.{Stand, stand, bytes_of, Advances, Writes, BeginsWithFrame, is_quit_end}
 
 -- how many bytes a session takes at most
 abbrev pub most_taken : ℕ
@@ -52,10 +53,10 @@ is_cut ends.Quit = false
 is_cut ends.Closed = false
 
 -- When each end comes, by the bytes taken, by what of them is no frame, and by whether a Quit was served. One end
--- excludes the others, but that want of memory is free, and that a fault of writing comes in place of another.
+-- excludes the others, but that want of memory may come at any frame, and that a fault of writing comes in place of another.
 abbrev pub Comes : Outside → Outside → List ℕ → List ℕ → Bool → End → Type 0
 Comes before now taken rest quit ends.BadWords = (taken ≡ []) × (quit ≡ false)
-Comes before now taken rest quit ends.NoMemory = Unit {0}
+Comes before now taken rest quit ends.NoMemory = quit ≡ false
 Comes before now taken rest quit (ends.BadMagic at) = HasBadMagic rest × (at + length rest ≡ length taken) × (quit ≡ false)
 Comes before now taken rest quit (ends.TooLong at) = IsTooLong rest × (at + length rest ≡ length taken) × (quit ≡ false)
 Comes before now taken rest quit (ends.Torn at) = HasEnded now taken × IsPartial rest × (rest ≢ []) × (at + length rest ≡ length taken) × (quit ≡ false)
@@ -78,31 +79,47 @@ IsNoted ends.WriteFault history served = history ≡ Opened ∷ flat_map event_o
 IsNoted ends.Quit history served = history ≡ Opened ∷ flat_map event_of served
 IsNoted ends.Closed history served = history ≡ Opened ∷ flat_map event_of served
 
+-- the ends of a session that didn't open
+abbrev pub EndsUnopened : End → Type 0
+EndsUnopened ends.BadWords = Unit {0}
+EndsUnopened ends.NoMemory = Unit {0}
+EndsUnopened (ends.BadMagic at) = ⊥
+EndsUnopened (ends.TooLong at) = ⊥
+EndsUnopened (ends.Torn at) = ⊥
+EndsUnopened ends.Limit = ⊥
+EndsUnopened ends.ReadFault = ⊥
+EndsUnopened ends.WriteFault = ⊥
+EndsUnopened ends.Quit = ⊥
+EndsUnopened ends.Closed = ⊥
+
 -- no byte was taken, and nothing was read
 pub record IsUnread (before now : Outside) (taken : List ℕ) : Type 0 where
   pub none : taken ≡ []
   pub left_before : now.left_before ≡ before.left_before
+  pub ended_before : now.ended_before ≡ before.ended_before
 
 -- Before the last read began, all whole frames of what was taken by then were served and their answers were
--- written, and no end was known: no Quit was served, and the rest may become a frame.
+-- written, and no end was known: the source hadn't ended since the session began, no Quit was served, and the rest
+-- may become a frame.
 pub record LastRead (before now : Outside) (taken : List ℕ) (served : List Exchange) (written : List ℕ) : Type 0 where
   pub earlier : List ℕ
   pub last : List ℕ
   pub parts : taken ≡ earlier ++ last
-  pub takes : Takes before.left now.left_before earlier
+  pub takes : TakesBytes before.left now.left_before earlier
   pub under : length earlier < most_taken
+  pub going : now.ended_before ≡ before.has_ended
   pub first : List Exchange
   pub later : List Exchange
   pub rest : List ℕ
   pub more : List ℕ
   pub order : served ≡ first ++ later
-  pub divided : earlier ≡ concat (bytes_of first) ++ rest
+  pub cut : HasCut earlier (bytes_of first) rest
   pub partial : IsPartial rest
   pub quits : StopsAtQuit false first false
   pub texts : written ≡ texts_of no_features first ++ more
 
-abbrev pub Reads : Outside → Outside → List ℕ → List Exchange → List ℕ → Type 0
-Reads before now taken served written = IsUnread before now taken ⊎ LastRead before now taken served written
+abbrev pub ReadsInTurn : Outside → Outside → List ℕ → List Exchange → List ℕ → Type 0
+ReadsInTurn before now taken served written = IsUnread before now taken ⊎ LastRead before now taken served written
 
 pub record IsSession (before now : Outside) (end : End) (history : List (ℕ × EventData)) : Type 0 where
   -- the bytes taken from the source, their one division, and what was served and written
@@ -113,7 +130,7 @@ pub record IsSession (before now : Outside) (end : End) (history : List (ℕ × 
   pub unserved : List (List ℕ)
   pub written : List ℕ
   pub lost : List ℕ
-  pub takes : Takes before.left now.left taken
+  pub takes : TakesBytes before.left now.left taken
   pub divided : Divides taken frames rest
   -- the frames were served in order up to the first Quit, all of them unless the end came between
   pub in_order : frames ≡ bytes_of served ++ unserved
@@ -125,20 +142,24 @@ pub record IsSession (before now : Outside) (end : End) (history : List (ℕ × 
   pub extra : ℕ
   pub few : extra ≤ 1
   pub exact : is_cut end ≡ false → extra ≡ 0
+  pub cut_off : extra ≢ 0 → unserved ≢ []
   pub asked : (k : ℕ) → now.moment k ≡ before.moment (length served + (extra + k))
+  -- memory was wanting before the session opened, or for a frame that isn't served; a session that didn't open did nothing
+  pub wanting : end ≡ ends.NoMemory → (history ≡ []) ⊎ (unserved ≢ [])
+  pub unopened : history ≡ [] → (taken ≡ []) × (extra ≡ 0)
   -- one legal history of vBucket 0 has each call once, in order, with the never-ejecting map's reply, and nothing else
   -- stands beside it
   pub events : List EventData
   pub only : history ≡ under 0 events
   pub noted : IsNoted end events served
   pub legal : IsLegal (session_front events)
-  -- what was written is the text of the answers, or after a fault of writing a front of it
+  -- what was written is the text of the answers, or after a fault of writing a first part of it
   pub wrote : Appends before.held now.held written
   pub texts : written ++ lost ≡ texts_of no_features served
   pub whole : end ≢ ends.WriteFault → lost ≡ []
   pub comes : Comes before now taken rest quit end
   -- each piece was served and answered before the next one was read, and no fault was passed over
-  pub reads : Reads before now taken served written
+  pub reads : ReadsInTurn before now taken served written
   pub reading : end ≢ ends.ReadFault → now.read_faults ≡ before.read_faults
   pub writing : end ≢ ends.WriteFault → now.write_faults ≡ before.write_faults
 
@@ -151,16 +172,16 @@ abbrev pub begin : Outside → List ℕ → Stand
 begin before taken = record { rest = taken; history = Opened ∷ []; pending = []; held = before.held; moment = before.moment; features = no_features; quit = false }
 
 -- so many bytes were taken, and each whole frame among them was answered
-pub record Progress (before now : Outside) (count : ℕ) (rest : List ℕ) (front : Front) : Type 0 where
+pub record Progress (before now : Outside) (count : ℕ) (rest : List ℕ) (responder : Responder) : Type 0 where
   pub taken : List ℕ
   pub counted : length taken ≡ count
-  pub takes : Takes before.left now.left taken
-  pub serves : Serves (begin before taken) (stand rest front now.held now.moment false)
-  pub sound : IsSound front
+  pub takes : TakesBytes before.left now.left taken
+  pub serves : Advances (begin before taken) (stand rest responder now.held now.moment false)
+  pub sound : IsSound responder
   pub partial : IsPartial rest
-  pub written : front.conn.out.bytes ≡ []
+  pub written : responder.conn.out.bytes ≡ []
   pub going : now.has_ended ≡ before.has_ended
-  pub reads : Reads before now taken serves.served serves.written
+  pub reads : ReadsInTurn before now taken serves.served serves.written
   pub read_faults : now.read_faults ≡ before.read_faults
   pub write_faults : now.write_faults ≡ before.write_faults
 
@@ -178,25 +199,27 @@ EndsAt held ends.Quit = ⊥
 EndsAt held ends.Closed = held.rest ≡ []
 
 -- a session stops so, with answers that aren't written yet
-pub record Stops (before now : Outside) (end : End) (front : Front) : Type 0 where
+pub record Stops (before now : Outside) (end : End) (responder : Responder) : Type 0 where
   pub taken : List ℕ
   pub rest : List ℕ
   pub pending : List ℕ
   pub moment : ℕ → Option ℕ
-  pub takes : Takes before.left now.left taken
-  pub serves : Serves (begin before taken) (record { rest = rest; history = events_of 0 front.history; pending = pending; held = now.held; moment = moment; features = front.conn.features; quit = is_quit_end end })
-  pub kept : end ≢ ends.WriteFault → pending ≡ front.conn.out.bytes
+  pub takes : TakesBytes before.left now.left taken
+  pub serves : Advances (begin before taken) (record { rest = rest; history = events_of 0 responder.history; pending = pending; held = now.held; moment = moment; features = responder.conn.features; quit = is_quit_end end })
+  pub kept : end ≢ ends.WriteFault → pending ≡ responder.conn.out.bytes
   pub extra : ℕ
   pub few : extra ≤ 1
   pub exact : end ≢ ends.NoMemory → extra ≡ 0
+  pub cut_off : extra ≢ 0 → BeginsWithFrame rest
+  pub wanting : end ≡ ends.NoMemory → BeginsWithFrame rest
   pub asked : (k : ℕ) → now.moment k ≡ moment (extra + k)
-  pub legal : IsLegalHistory front.history
+  pub legal : IsLegalHistory responder.history
   pub comes : Comes before now taken rest (is_quit_end end) end
   pub served : end ≢ ends.BadWords
-  pub reads : Reads before now taken serves.served serves.written
+  pub reads : ReadsInTurn before now taken serves.served serves.written
   pub reading : end ≢ ends.ReadFault → now.read_faults ≡ before.read_faults
   pub writing : end ≢ ends.WriteFault → now.write_faults ≡ before.write_faults
-  pub flushed : end ≡ ends.ReadFault → front.conn.out.bytes ≡ []
+  pub flushed : end ≡ ends.ReadFault → responder.conn.out.bytes ≡ []
 
 -- the answers that were pending as a session stopped were written
 pub record Written (end final : End) (pending : List ℕ) (old new : Option (List ℕ)) (old_faults new_faults : ℕ) : Type 0 where

@@ -1,16 +1,18 @@
 -- How far a session is, and how it goes on from there.
 use Rattle.std.specs.Prelude.{◌≡◌, ◌≢◌, ℕ, ◌+◌, ◌≤◌, Bool, true, false, List, ◌++◌, length, map, Option}
-use Rattle.std.specs.List.{AllByRecursion, concat, flat_map}
+use Rattle.std.specs.List.{flat_map}
 use Rattle.ep_model.specs.declared.data.EventData.{EventData}
 use Rattle.ep_model.specs.Counts.{RoseByOne}
 use Rattle.ep_edge.specs.Edge.{Appends}
+use Rattle.mcbp_frame.specs.Stream.{HasCut}
 use Rattle.mcbp_frame.specs.Frames.{IsFrame}
+use Rattle.mcbp_frame.specs.Feeder.{first_frame}
 use Rattle.mcbp_frame.specs.Division.{HasBadMagic, IsTooLong}
 use Rattle.conn_core.specs.declared.hello.Features.{Features}
 use Rattle.vb_world.specs.History.{events_of}
 use Rattle.ep_top.specs.declared.end.End.{End}
 use Rattle.ep_top.specs.declared.end.End.TheVariants as ends
-use Rattle.ep_top.specs.declared.front.Front.{Front}
+use Rattle.ep_top.specs.declared.responder.Responder.{Responder}
 use Rattle.conn_core.specs.Exchange.{Exchange, features_of, AreMoments}
 use Rattle.ep_top.specs.Exchange.{event_of, texts_of, StopsAtQuit}
 
@@ -25,19 +27,18 @@ pub record Stand : Type 0 where
   pub features : Features
   pub quit : Bool
 
-abbrev pub stand : List ℕ → Front → Option (List ℕ) → (ℕ → Option ℕ) → Bool → Stand
-stand rest front held moment quit = record { rest = rest; history = events_of 0 front.history; pending = front.conn.out.bytes; held = held; moment = moment; features = front.conn.features; quit = quit }
+abbrev pub stand : List ℕ → Responder → Option (List ℕ) → (ℕ → Option ℕ) → Bool → Stand
+stand rest responder held moment quit = record { rest = rest; history = events_of 0 responder.history; pending = responder.conn.out.bytes; held = held; moment = moment; features = responder.conn.features; quit = quit }
 
 -- the bytes of these frames, one after the other
 abbrev pub bytes_of : List Exchange → List (List ℕ)
 bytes_of served = map (λ x. x.bytes) served
 
 -- Between the two, these frames of the rest were served, and so much was written.
-pub record Serves (old new : Stand) : Type 0 where
+pub record Advances (old new : Stand) : Type 0 where
   pub served : List Exchange
   pub written : List ℕ
-  pub rest : old.rest ≡ concat (bytes_of served) ++ new.rest
-  pub each : AllByRecursion IsFrame (bytes_of served)
+  pub cut : HasCut old.rest (bytes_of served) new.rest
   pub noted : new.history ≡ old.history ++ flat_map event_of served
   pub texts : written ++ new.pending ≡ old.pending ++ texts_of old.features served
   pub features : new.features ≡ features_of old.features served
@@ -46,16 +47,24 @@ pub record Serves (old new : Stand) : Type 0 where
   pub moments : AreMoments old.moment 0 served
   pub asked : (k : ℕ) → new.moment k ≡ old.moment (length served + k)
 
--- a front of the pending answers was written, and the others are pending still
+-- a first part of the pending answers was written, and the others are pending still
 pub record Writes (pending left : List ℕ) (old new : Option (List ℕ)) : Type 0 where
   pub written : List ℕ
   pub parts : pending ≡ written ++ left
   pub wrote : Appends old new written
 
--- why serving stopped: want of memory, a fault of writing, a Quit, or what stands at the place `at`
+-- some of the pending answers are lost, and those before them were written
+abbrev pub LosesSome : List ℕ → Option (List ℕ) → Option (List ℕ) → Type 0
+LosesSome pending old new = (lost : List ℕ) × Writes pending lost old new
+
+-- what wasn't served begins with a whole frame
+abbrev pub BeginsWithFrame : List ℕ → Type 0
+BeginsWithFrame rest = IsFrame (first_frame rest)
+
+-- why serving stopped: want of memory for a frame, a fault of writing, a Quit, or what stands at the place `at`
 abbrev pub HasStopped : End → List ℕ → List ℕ → ℕ → Type 0 → Type 0
 HasStopped ends.BadWords rest kept at rose = ⊥
-HasStopped ends.NoMemory rest kept at rose = Unit {0}
+HasStopped ends.NoMemory rest kept at rose = BeginsWithFrame rest
 HasStopped (ends.BadMagic place) rest kept at rose = HasBadMagic rest × (rest ≡ kept) × (place ≡ at)
 HasStopped (ends.TooLong place) rest kept at rose = IsTooLong rest × (rest ≡ kept) × (place ≡ at)
 HasStopped (ends.Torn place) rest kept at rose = ⊥
@@ -84,11 +93,12 @@ pub record Breaks (end : End) (old new : Stand) (at : ℕ) (old_faults new_fault
   pub rest : List ℕ
   pub pending : List ℕ
   pub moment : ℕ → Option ℕ
-  pub serves : Serves old (record { rest = rest; history = new.history; pending = pending; held = new.held; moment = moment; features = new.features; quit = is_quit_end end })
+  pub serves : Advances old (record { rest = rest; history = new.history; pending = pending; held = new.held; moment = moment; features = new.features; quit = is_quit_end end })
   pub kept : end ≢ ends.WriteFault → pending ≡ new.pending
   pub extra : ℕ
   pub few : extra ≤ 1
   pub exact : end ≢ ends.NoMemory → extra ≡ 0
+  pub cut_off : extra ≢ 0 → BeginsWithFrame rest
   pub asked : (k : ℕ) → new.moment k ≡ moment (extra + k)
   pub why : HasStopped end rest new.rest at (RoseByOne old_faults new_faults)
   pub quiet : end ≢ ends.WriteFault → new_faults ≡ old_faults

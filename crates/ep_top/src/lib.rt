@@ -2,8 +2,8 @@
 #![tactic(auto)]
 
 mod end;
-mod front;
 mod laws;
+mod responder;
 mod session;
 
 pub use end::End;

@@ -1,17 +1,17 @@
 // The session: bytes in, answers out, and the history of what was answered.
-ghost use Rattle.std.specs.Prelude.{◌≡◌, ◌≢◌, ◌||◌, ◌+◌, ◌<◌, ◌≤◌, ◌^◌, ◌++◌, ◌↔◌, ℕ, List, [], length, map, true, false, string_bytes, OnOk, OnErr, IfOk, IfErr};
+ghost use Rattle.std.specs.Prelude.{◌≡◌, ◌≢◌, ◌||◌, ◌+◌, ◌-◌, ◌<◌, ◌≤◌, ◌^◌, ◌++◌, ◌↔◌, ℕ, List, [], length, map, true, false, string_bytes, OnOk, OnErr, IfOk, IfErr};
 ghost use Rattle.ep_edge.specs.Edge.{IsEmptied, is_end, read_faults};
 ghost use Rattle.mcbp_frame.specs.Division.{IsPartial};
-ghost use Rattle.ep_top.specs.Front.{IsLegalHistory, IsSound, IsFresh};
-ghost use Rattle.ep_top.specs.Outside.{outside};
-ghost use Rattle.ep_top.specs.Stand.{stand, Serves, Breaks};
-ghost use Rattle.ep_top.specs.Session.{IsSession, IsSessionCommand, Stops, EndsAt, Finishes};
-ghost use Rattle.ep_top.specs.Piece.{count_of, Feeds};
+ghost use Rattle.ep_top.specs.Responder.{IsLegalHistory, IsSound, IsFresh};
+ghost use Rattle.ep_top.specs.Outside.{Outside, outside};
+ghost use Rattle.ep_top.specs.Stand.{stand, Advances, Breaks};
+ghost use Rattle.ep_top.specs.Session.{most_taken, IsSession, IsSessionCommand, EndsUnopened, Stops, EndsAt, Finishes};
+ghost use Rattle.mcbp_frame.specs.Piece.{Feeds};
 
 use crate::end::End;
-use crate::front::{Front, flush, make_room};
+use crate::responder::{Responder, Served};
 use ep_edge::{Clock, Got, Put, Sink, Source};
-use ep_model::{NoMemory, Out};
+use ep_model::NoMemory;
 use mcbp_frame::{Feeder, Next};
 use std::alloc::Global;
 use vb_world::History;
@@ -32,30 +32,30 @@ pub struct SessionEnd {
 // Answers the next frame that was fed, where there is one: false where there is none.
 fn serve_next<W: Sink, C: Clock>(
     feeder: &mut Feeder,
-    front: &mut Front,
+    responder: &mut Responder,
     sink: &mut W,
     clock: &mut C,
 ) -> Result<bool, End>
-    requires sound { IsSound front.old }
+    requires sound { IsSound responder.old }
 
-    ensures serves { OnOk result (Serves (stand feeder.old.rest front.old (W.held sink.old) (C.moment clock.old) false) (stand feeder.new.rest front.new (W.held sink.new) (C.moment clock.new) false)) }
-    ensures sound { OnOk result (IsSound front.new) }
+    ensures serves { OnOk result (Advances (stand feeder.old.rest responder.old (W.held sink.old) (C.moment clock.old) false) (stand feeder.new.rest responder.new (W.held sink.new) (C.moment clock.new) false)) }
+    ensures sound { OnOk result (IsSound responder.new) }
     ensures less { result ≡ Ok true → length feeder.new.rest < length feeder.old.rest }
     ensures partial { result ≡ Ok false → IsPartial feeder.new.rest }
 
-    ensures breaks { IfErr result (λ end. Breaks end (stand feeder.old.rest front.old (W.held sink.old) (C.moment clock.old) false) (stand feeder.new.rest front.new (W.held sink.new) (C.moment clock.new) false) feeder.new.at (W.faults sink.old) (W.faults sink.new)) }
-    ensures legal { OnErr result (IsLegalHistory front.new.history) }
+    ensures breaks { IfErr result (λ end. Breaks end (stand feeder.old.rest responder.old (W.held sink.old) (C.moment clock.old) false) (stand feeder.new.rest responder.new (W.held sink.new) (C.moment clock.new) false) feeder.new.at (W.faults sink.old) (W.faults sink.new)) }
+    ensures legal { OnErr result (IsLegalHistory responder.new.history) }
 
     ensures place { feeder.new.at + length feeder.new.rest ≡ feeder.old.at + length feeder.old.rest }
     ensures quiet { OnOk result (W.faults sink.new ≡ W.faults sink.old) }
 {
-    let Put::Done = make_room(&mut front.conn.out, sink) else {
+    let Put::Done = responder.make_room(sink) else {
         return Err(End::WriteFault);
     };
     match feeder.next() {
-        Next::Frame(frame) => match front.serve(&frame, clock) {
-            Ok(false) => Ok(true),
-            Ok(true) => Err(End::Quit),
+        Next::Frame(frame) => match responder.serve(&frame, clock) {
+            Ok(Served::GoesOn) => Ok(true),
+            Ok(Served::Quits) => Err(End::Quit),
             Err(NoMemory) => Err(End::NoMemory),
         },
         Next::Need => Ok(false),
@@ -67,39 +67,38 @@ fn serve_next<W: Sink, C: Clock>(
 // Answers each whole frame that was fed, and writes the answers.
 fn drain<W: Sink, C: Clock>(
     feeder: &mut Feeder,
-    front: &mut Front,
+    responder: &mut Responder,
     sink: &mut W,
     clock: &mut C,
 ) -> Result<(), End>
-    requires sound { IsSound front.old }
+    requires sound { IsSound responder.old }
 
-    ensures serves { OnOk result (Serves (stand feeder.old.rest front.old (W.held sink.old) (C.moment clock.old) false) (stand feeder.new.rest front.new (W.held sink.new) (C.moment clock.new) false)) }
-    ensures sound { OnOk result (IsSound front.new) }
+    ensures serves { OnOk result (Advances (stand feeder.old.rest responder.old (W.held sink.old) (C.moment clock.old) false) (stand feeder.new.rest responder.new (W.held sink.new) (C.moment clock.new) false)) }
+    ensures sound { OnOk result (IsSound responder.new) }
     ensures partial { OnOk result (IsPartial feeder.new.rest) }
-    ensures written { OnOk result (front.new.conn.out.bytes ≡ []) }
+    ensures written { OnOk result (responder.new.conn.out.bytes ≡ []) }
 
-    ensures breaks { IfErr result (λ end. Breaks end (stand feeder.old.rest front.old (W.held sink.old) (C.moment clock.old) false) (stand feeder.new.rest front.new (W.held sink.new) (C.moment clock.new) false) feeder.new.at (W.faults sink.old) (W.faults sink.new)) }
-    ensures legal { OnErr result (IsLegalHistory front.new.history) }
+    ensures breaks { IfErr result (λ end. Breaks end (stand feeder.old.rest responder.old (W.held sink.old) (C.moment clock.old) false) (stand feeder.new.rest responder.new (W.held sink.new) (C.moment clock.new) false) feeder.new.at (W.faults sink.old) (W.faults sink.new)) }
+    ensures legal { OnErr result (IsLegalHistory responder.new.history) }
 
     ensures place { feeder.new.at + length feeder.new.rest ≡ feeder.old.at + length feeder.old.rest }
     ensures quiet { OnOk result (W.faults sink.new ≡ W.faults sink.old) }
 {
     'frames: loop {
-        match serve_next(feeder, front, sink, clock) {
+        match serve_next(feeder, responder, sink, clock) {
             Ok(true) => {}
             Ok(false) => break,
             Err(end) => return Err(end),
         }
     }
-    match flush(&mut front.conn.out, sink) {
+    match responder.flush(sink) {
         Put::Done => Ok(()),
         Put::Failed => Err(End::WriteFault),
     }
 }
 
-// Reads a piece of at most `limit` bytes, and feeds it.
-fn take<R: Source>(feeder: &mut Feeder, piece: &mut [u8], limit: u64, source: &mut R) -> Got
-    requires room { length piece.old ≡ PIECE }
+// Takes a piece of at most `limit` bytes from the source into the feeder.
+fn take<R: Source>(feeder: &mut Feeder, limit: u64, source: &mut R) -> Got
     requires partial { IsPartial feeder.old.rest }
     requires limit { 0 < limit }
     requires place { feeder.old.at + length feeder.old.rest + limit < 2 ^ 64 }
@@ -111,13 +110,17 @@ fn take<R: Source>(feeder: &mut Feeder, piece: &mut [u8], limit: u64, source: &m
     ensures end { result ≡ Got.End → IsEmptied (R.left source.new) }
     ensures faults { R.faults source.new ≡ read_faults result (R.faults source.old) }
     ensures before { R.left_before source.new ≡ R.left source.old }
+    ensures behind { R.ended_before source.new ≡ R.has_ended source.old }
 {
-    let most = limit.min(PIECE as u64) as usize;
-    let got = source.read(&mut piece[..most]);
-    if let Got::Bytes(n) = got {
-        feeder.feed(&piece[..n]);
-    }
-    got
+    feeder.read_from(limit.min(PIECE as u64) as usize, source)
+}
+
+// How many more bytes a session takes that took so many.
+fn left_to_take(taken: u64) -> u64
+    requires { taken ≤ most_taken }
+    ensures { result ≡ most_taken - taken }
+{
+    MAX_TAKEN - taken
 }
 
 // How a session ends at the end of its input.
@@ -134,27 +137,25 @@ fn end_of_input(feeder: &Feeder) -> End
 // Takes the stream piece by piece, and answers its frames.
 fn serve_stream<R: Source, W: Sink, C: Clock>(
     feeder: &mut Feeder,
-    front: &mut Front,
-    piece: &mut [u8],
+    responder: &mut Responder,
     source: &mut R,
     sink: &mut W,
     clock: &mut C,
 ) -> End
-    requires piece { length piece.old ≡ PIECE }
     requires rest { feeder.old.rest ≡ [] }
     requires at { feeder.old.at ≡ 0 }
-    requires fresh { IsFresh front.old }
-    requires sound { IsSound front.old }
+    requires fresh { IsFresh responder.old }
+    requires sound { IsSound responder.old }
 
-    ensures stops { Stops (outside (R.left source.old) (R.left_before source.old) (R.has_ended source.old) (R.faults source.old) (W.held sink.old) (W.faults sink.old) (C.moment clock.old))
-        (outside (R.left source.new) (R.left_before source.new) (R.has_ended source.new) (R.faults source.new) (W.held sink.new) (W.faults sink.new) (C.moment clock.new)) result front.new }
+    ensures stops { Stops (outside (R.left source.old) (R.left_before source.old) (R.has_ended source.old) (R.ended_before source.old) (R.faults source.old) (W.held sink.old) (W.faults sink.old) (C.moment clock.old))
+        (outside (R.left source.new) (R.left_before source.new) (R.has_ended source.new) (R.ended_before source.new) (R.faults source.new) (W.held sink.new) (W.faults sink.new) (C.moment clock.new)) result responder.new }
 {
     let mut taken: u64 = 0;
     'pieces: while taken < MAX_TAKEN {
-        match take(feeder, piece, MAX_TAKEN - taken, source) {
+        match take(feeder, left_to_take(taken), source) {
             Got::Bytes(n) => {
                 taken += n as u64;
-                if let Err(end) = drain(feeder, front, sink, clock) {
+                if let Err(end) = drain(feeder, responder, sink, clock) {
                     return end;
                 }
             }
@@ -166,13 +167,14 @@ fn serve_stream<R: Source, W: Sink, C: Clock>(
 }
 
 // Writes what is pending as a session ends, unless a fault of writing ended it.
-fn finish<W: Sink>(end: End, answers: &mut Out, sink: &mut W) -> End
-    ensures finishes { Finishes end result answers.old.bytes (W.held sink.old) (W.held sink.new) (W.faults sink.old) (W.faults sink.new) }
+fn finish<W: Sink>(end: End, responder: &mut Responder, sink: &mut W) -> End
+    ensures finishes { Finishes end result responder.old.conn.out.bytes (W.held sink.old) (W.held sink.new) (W.faults sink.old) (W.faults sink.new) }
+    ensures history { responder.new.history ≡ responder.old.history }
 {
     if let End::WriteFault = end {
         return End::WriteFault;
     }
-    match flush(answers, sink) {
+    match responder.flush(sink) {
         Put::Done => end,
         Put::Failed => End::WriteFault,
     }
@@ -189,25 +191,22 @@ fn is_session(words: &Vec<String>) -> bool
     }
 }
 
-// What a session holds: the stream that isn't divided yet, what answers frames, and the buffer of a read.
+// What a session holds: the stream that isn't divided yet, and what answers frames.
 #[derive(Drop)]
 struct Parts {
     feeder: Feeder,
-    front: Front,
-    piece: Vec<u8>,
+    responder: Responder,
 }
 
 fn open(alloc: Global) -> Result<Parts, NoMemory>
     ensures rest { IfOk result (λ parts. parts.feeder.rest ≡ []) }
     ensures at { IfOk result (λ parts. parts.feeder.at ≡ 0) }
-    ensures fresh { IfOk result (λ parts. IsFresh parts.front) }
-    ensures sound { IfOk result (λ parts. IsSound parts.front) }
-    ensures piece { IfOk result (λ parts. length parts.piece.items ≡ PIECE) }
+    ensures fresh { IfOk result (λ parts. IsFresh parts.responder) }
+    ensures sound { IfOk result (λ parts. IsSound parts.responder) }
 {
     Ok(Parts {
         feeder: Feeder::new(alloc)?,
-        front: Front::open(alloc)?,
-        piece: vec![in alloc; 0u8; PIECE]?,
+        responder: Responder::open(alloc)?,
     })
 }
 
@@ -225,23 +224,30 @@ pub fn run_session<R: Source, W: Sink, C: Clock>(
 ) -> SessionEnd
     ensures words { result.end ≡ End.BadWords → IsSessionCommand (map string_bytes words.now.items) → ⊥ }
     ensures bad_words { (IsSessionCommand (map string_bytes words.now.items) → ⊥) → result.end ≡ End.BadWords }
-    ensures session { IsSession (outside (R.left source.old) (R.left_before source.old) (R.has_ended source.old) (R.faults source.old) (W.held sink.old) (W.faults sink.old) (C.moment clock.old))
-        (outside (R.left source.new) (R.left_before source.new) (R.has_ended source.new) (R.faults source.new) (W.held sink.new) (W.faults sink.new) (C.moment clock.new)) result.end result.history }
+    ensures session { IsSession (outside (R.left source.old) (R.left_before source.old) (R.has_ended source.old) (R.ended_before source.old) (R.faults source.old) (W.held sink.old) (W.faults sink.old) (C.moment clock.old))
+        (outside (R.left source.new) (R.left_before source.new) (R.has_ended source.new) (R.ended_before source.new) (R.faults source.new) (W.held sink.new) (W.faults sink.new) (C.moment clock.new)) result.end result.history }
     ensures refused { result.end ≡ End.BadWords → (source.new ≡ source.old) × (sink.new ≡ sink.old) × (clock.new ≡ clock.old) }
     ensures unopened { result.history ≡ [] → (source.new ≡ source.old) × (sink.new ≡ sink.old) × (clock.new ≡ clock.old) }
 {
     if !is_session(words) {
-        return SessionEnd {
-            end: End::BadWords,
-            history: History::new(alloc),
-        };
+        return unopened(alloc, End::BadWords);
     }
     match open(alloc) {
         Ok(parts) => serve(parts, source, sink, clock),
-        Err(NoMemory) => SessionEnd {
-            end: End::NoMemory,
-            history: History::new(alloc),
-        },
+        Err(NoMemory) => unopened(alloc, End::NoMemory),
+    }
+}
+
+// The end of a session that didn't open: it did nothing.
+fn unopened(alloc: Global, end: End) -> SessionEnd
+    requires { EndsUnopened end }
+    ensures end { result.end ≡ end }
+    ensures history { result.history ≡ [] }
+    ensures session { (before : Outside) → IsSession before before result.end result.history }
+{
+    SessionEnd {
+        end,
+        history: History::new(alloc),
     }
 }
 
@@ -254,21 +260,19 @@ fn serve<R: Source, W: Sink, C: Clock>(
 ) -> SessionEnd
     requires rest { parts.feeder.rest ≡ [] }
     requires at { parts.feeder.at ≡ 0 }
-    requires fresh { IsFresh parts.front }
-    requires sound { IsSound parts.front }
-    requires piece { length parts.piece.items ≡ PIECE }
+    requires fresh { IsFresh parts.responder }
+    requires sound { IsSound parts.responder }
     ensures served { result.end ≡ End.BadWords → ⊥ }
     ensures opened { result.history ≡ [] → ⊥ }
-    ensures session { IsSession (outside (R.left source.old) (R.left_before source.old) (R.has_ended source.old) (R.faults source.old) (W.held sink.old) (W.faults sink.old) (C.moment clock.old))
-        (outside (R.left source.new) (R.left_before source.new) (R.has_ended source.new) (R.faults source.new) (W.held sink.new) (W.faults sink.new) (C.moment clock.new)) result.end result.history }
+    ensures session { IsSession (outside (R.left source.old) (R.left_before source.old) (R.has_ended source.old) (R.ended_before source.old) (R.faults source.old) (W.held sink.old) (W.faults sink.old) (C.moment clock.old))
+        (outside (R.left source.new) (R.left_before source.new) (R.has_ended source.new) (R.ended_before source.new) (R.faults source.new) (W.held sink.new) (W.faults sink.new) (C.moment clock.new)) result.end result.history }
 {
     let Parts {
         mut feeder,
-        mut front,
-        mut piece,
+        mut responder,
     } = parts;
-    let end = serve_stream(&mut feeder, &mut front, &mut piece, source, sink, clock);
-    let end = finish(end, &mut front.conn.out, sink);
-    let Front { history, .. } = front;
+    let end = serve_stream(&mut feeder, &mut responder, source, sink, clock);
+    let end = finish(end, &mut responder, sink);
+    let Responder { history, .. } = responder;
     SessionEnd { end, history }
 }

@@ -41,19 +41,27 @@ fn a_fault_keeps_the_answers_before_it(rt: HostRuntime) -> Result<(), Fail> {
 fn each_read_and_each_write_may_fail(rt: HostRuntime) -> Result<(), Fail> {
     let alloc = rt.alloc();
     let input = bytes_of(alloc, &[MISS, NOOP])?;
-    let answers = bytes_of(alloc, &[MISS_ANSWER, NOOP_ANSWER])?;
-    // Each byte takes one read, and the end of input one more; each answer takes one write.
+    let first = bytes_of(alloc, &[MISS_ANSWER])?;
+    let both = bytes_of(alloc, &[MISS_ANSWER, NOOP_ANSWER])?;
+
+    // Each byte takes one read, and the end of input one more; each answer takes one write. The first frame is 25
+    // bytes long, so the read that fails after it finds one answer written, and the last one both.
     for call in 0..=49 {
         let ones = vec![in alloc; 1; 49]?;
         let outcome = session_on(alloc, &["session"], &input, ones, &[call], &[])?;
         assert_eq!(rt; outcome.end, End::ReadFault, "read {call}");
-        assert!(rt; answers.starts_with(&outcome.written), "read {call}");
+        let written: &[u8] = match call {
+            0..=24 => &[],
+            25..=48 => first.as_slice(),
+            _ => both.as_slice(),
+        };
+        assert!(rt; outcome.written.as_slice() == written, "read {call}");
     }
-    for call in 0..2 {
+    for (call, written) in [(0, b"".as_slice()), (1, first.as_slice())] {
         let ones = vec![in alloc; 1; 49]?;
         let outcome = session_on(alloc, &["session"], &input, ones, &[], &[call])?;
         assert_eq!(rt; outcome.end, End::WriteFault, "write {call}");
-        assert!(rt; answers.starts_with(&outcome.written), "write {call}");
+        assert!(rt; outcome.written.as_slice() == written, "write {call}");
     }
     Ok(())
 }

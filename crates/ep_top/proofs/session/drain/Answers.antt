@@ -1,7 +1,7 @@
 -- Frame after frame, and then what is pending is written.
 use Rattle.std.proofs.Common.{false, ◌∙◌, refl}
 use Rattle.ep_top.specs.Stand.{stand}
-use Rattle.ep_top.proofs.Stands.{serves_nothing, serves_writes, serves_then, breaks_fault, breaks_then, rose_from}
+use Rattle.ep_top.proofs.StandLemmas.{serves_nothing, serves_then, advances_writes, breaks_loss, breaks_then, rose_from}
 use Rattle.ep_top.proofs.session.drain.Goals as goal
 
 pub frames-init : goal.frames-init
@@ -21,12 +21,17 @@ returns-in-Err-clause-breaks g c =
 
 pub returns-in-Done-clause-serves : goal.returns-in-Done-clause-serves
 returns-in-Done-clause-serves g c =
-    let here = stand c.serve_next.new.feeder.rest c.serve_next.new.front (g.W.Sink.held c.serve_next.new.sink) (g.C.Clock.moment c.serve_next.new.clock) false in
-    serves_then _ here _ (serves_then _ _ here c.frames.invariant.serves c.in-Ok-false.ensures.serves)
-    (serves_writes here c.flush.new.answers.bytes (g.W.Sink.held c.flush.new.sink) (c.flush.ensures.done c.in-Done.is).0)
+    let start = stand c.args.feeder.now.rest c.args.responder.now (g.W.Sink.held c.args.sink.now) (g.C.Clock.moment c.args.clock.now) false in
+    let loop = stand c.frames.feeder.rest c.frames.responder (g.W.Sink.held c.frames.sink) (g.C.Clock.moment c.frames.clock) false in
+    let here = stand c.serve_next.new.feeder.rest c.serve_next.new.responder (g.W.Sink.held c.serve_next.new.sink) (g.C.Clock.moment c.serve_next.new.clock) false in
+    let done = stand c.serve_next.new.feeder.rest c.flush.new.self (g.W.Sink.held c.flush.new.sink) (g.C.Clock.moment c.serve_next.new.clock) false in
+    serves_then start here done (serves_then start loop here c.frames.invariant.serves c.in-Ok-false.ensures.serves)
+    (advances_writes c.serve_next.new.feeder.rest c.serve_next.new.responder c.flush.new.self (g.W.Sink.held c.serve_next.new.sink) (g.W.Sink.held c.flush.new.sink) (g.C.Clock.moment c.serve_next.new.clock) c.flush.ensures.kept (c.flush.ensures.done c.in-Done.is).0)
 
 pub returns-in-Failed-clause-breaks : goal.returns-in-Failed-clause-breaks
 returns-in-Failed-clause-breaks g c =
-    let here = stand c.serve_next.new.feeder.rest c.serve_next.new.front (g.W.Sink.held c.serve_next.new.sink) (g.C.Clock.moment c.serve_next.new.clock) false in
+    let start = stand c.args.feeder.now.rest c.args.responder.now (g.W.Sink.held c.args.sink.now) (g.C.Clock.moment c.args.clock.now) false in
+    let loop = stand c.frames.feeder.rest c.frames.responder (g.W.Sink.held c.frames.sink) (g.C.Clock.moment c.frames.clock) false in
+    let here = stand c.serve_next.new.feeder.rest c.serve_next.new.responder (g.W.Sink.held c.serve_next.new.sink) (g.C.Clock.moment c.serve_next.new.clock) false in
     let fault = c.flush.ensures.failed c.in-Failed.is in
-    breaks_fault _ here fault.0.0 _ _ _ _ _ (serves_then _ _ here c.frames.invariant.serves c.in-Ok-false.ensures.serves) refl fault.0.1 (rose_from _ _ _ (c.in-Ok-false.ensures.quiet ∙ c.frames.invariant.faults) fault.1)
+    breaks_loss start c.serve_next.new.feeder.rest c.serve_next.new.responder c.flush.new.self (g.W.Sink.held c.serve_next.new.sink) (g.W.Sink.held c.flush.new.sink) (g.C.Clock.moment c.serve_next.new.clock) _ _ _ (serves_then start loop here c.frames.invariant.serves c.in-Ok-false.ensures.serves) c.flush.ensures.kept fault.0 (rose_from _ _ _ (c.in-Ok-false.ensures.quiet ∙ c.frames.invariant.faults) fault.1)

@@ -1,6 +1,6 @@
 use Rattle.std.proofs.Common.{◌≡◌, ◌∙◌, ap, sym, List, [], ◌∷◌, String, Global, string_bytes, length, get_or, arith}
 use Rattle.std.proofs.lemmas.Slice.Eq.{bytes_eq-Decides}
-use Rattle.ep_top.proofs.Words.{one_word}
+use Rattle.ep_top.proofs.WordLemmas.{one_word}
 use Rattle.ep_top.proofs.session.is_session.Goals as goal
 
 pub returns-in-len1-clause-yes : goal.returns-in-len1-clause-yes

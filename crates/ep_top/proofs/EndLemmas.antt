@@ -1,28 +1,31 @@
 -- From how a session stopped to what it did, once its last answers were written.
-use Rattle.std.proofs.Common.{◌≡◌, ◌≢◌, ℕ, ◌+◌, ◌≤◌, Bool, true, false, ◌||◌, List, [], ◌∷◌, ◌++◌, refl, sym, ap, subst, ◌∙◌, inl, inr, Option, arith, append_assoc, append-nil}
+use Rattle.std.proofs.Common.{◌≡◌, ◌≢◌, ℕ, ◌+◌, ◌≤◌, Bool, true, false, ◌||◌, List, [], ◌∷◌, ◌++◌, refl, sym, ap, subst, ◌∙◌, inl, inr, Option, arith, append_assoc, append-nil, drop}
+use Rattle.std.proofs.lemmas.List.{take-append-drop}
 use Rattle.std.specs.List.{AllByRecursion, concat, flat_map}
 use Rattle.ep_model.specs.Counts.{RoseByOne}
-use Rattle.ep_edge.specs.Edge.{Takes, Appends, IsEmptied}
+use Rattle.ep_edge.specs.Edge.{TakesBytes, Appends, IsEmptied}
 use Rattle.ep_model.specs.declared.data.EventData.{EventData}
 use Rattle.ep_model.specs.declared.data.EventData.TheVariants.{Opened}
 use Rattle.ep_model.proofs.HistoryLemmas.{legal-bare}
 use Rattle.vb_world.specs.History.{events_of}
-use Rattle.mcbp_frame.specs.Frames.{IsFrame}
 use Rattle.mcbp_frame.specs.Division.{Divides, IsPartial}
 use Rattle.mcbp_frame.specs.Laws.{IsRest}
-use Rattle.mcbp_frame.proofs.DivisionLemmas.{divides-cons, divides-none, rest_over, some_division, partial_over}
+use Rattle.mcbp_frame.proofs.DivisionLemmas.{divides-cons, divides-none, some_division, partial_over}
+use Rattle.mcbp_frame.proofs.StreamLemmas.{stream_divides}
+use Rattle.mcbp_frame.specs.Feeder.{first_frame}
+use Rattle.mcbp_frame.specs.Frames.{IsFrame, frame_length}
 use Rattle.ep_top.specs.declared.end.End.{End}
 use Rattle.ep_top.specs.declared.end.End.TheVariants as ends
-use Rattle.ep_top.specs.declared.front.Front.{Front}
+use Rattle.ep_top.specs.declared.responder.Responder.{Responder}
 use Rattle.conn_core.specs.declared.hello.Features.{Features}
 use Rattle.conn_core.specs.Exchange.{Exchange}
 use Rattle.ep_top.specs.Exchange.{event_of, texts_of}
-use Rattle.ep_top.specs.Front.{session_config, IsLegalHistory}
-use Rattle.ep_top.specs.Outside.{Outside}
-use Rattle.ep_top.specs.Stand.{Stand, bytes_of, Serves, Writes, is_quit_end}
-use Rattle.ep_top.specs.Session.{HasEnded, is_cut, Comes, IsNoted, IsSession, begin, no_features, Reads, Stops, Written, Lost, Broken, Finishes}
-use Rattle.ep_top.proofs.Stands.{serves_then, serves_then-served, serves_then-written, serves_writes, serves_writes-served, serves_writes-written, appends_nothing, rose_from}
-use Rattle.ep_top.proofs.Sessions.{takes_nothing}
+use Rattle.ep_top.specs.Responder.{session_config, IsLegalHistory}
+use Rattle.ep_top.specs.Outside.{Outside, IsReadNoMore}
+use Rattle.ep_top.specs.Stand.{Stand, bytes_of, Advances, Writes, BeginsWithFrame, is_quit_end}
+use Rattle.ep_top.specs.Session.{HasEnded, is_cut, Comes, IsNoted, EndsUnopened, IsSession, begin, no_features, ReadsInTurn, Stops, Written, Lost, Broken, Finishes}
+use Rattle.ep_top.proofs.StandLemmas.{serves_then, serves_then-served, serves_then-written, serves_writes, serves_writes-served, serves_writes-written, appends_nothing, rose_from}
+use Rattle.ep_top.proofs.SessionLemmas.{takes_nothing}
 
 -- frames before a text that is divided
 divides_after : (frames : List (List ℕ)) {text : List ℕ} {later : List (List ℕ)} {rest : List ℕ} → AllByRecursion IsFrame frames → Divides text later rest → Divides (concat frames ++ text) (frames ++ later) rest
@@ -43,16 +46,22 @@ noted_from ends.WriteFault history served not e = e
 noted_from ends.Quit history served not e = e
 noted_from ends.Closed history served not e = e
 
+-- a text that begins with a frame has one in its division
+some_frame : (text : List ℕ) (frames : List (List ℕ)) (rest : List ℕ) → Divides text frames rest → BeginsWithFrame text → frames ≢ []
+some_frame text frames rest d begins none =
+    let whole : text ≡ rest = subst (λ (fs : List (List ℕ)). text ≡ concat fs ++ rest) none d.whole in
+    d.over (first_frame text) (drop (frame_length text) text) begins (sym whole ∙ sym (take-append-drop (frame_length text) text))
+
 -- all of it, from what was served and written in the end, and from the division of what wasn't served
 session_from : (before now : Outside) (end : End) (history : List (ℕ × EventData)) (taken rest pending : List ℕ) (moment : ℕ → Option ℕ) (features : Features) (quit : Bool) (extra : ℕ) (unserved : List (List ℕ)) (left : List ℕ)
-    → Takes before.left now.left taken
-    → (p : Serves (begin before taken) (record { rest = rest; history = events_of 0 history; pending = pending; held = now.held; moment = moment; features = features; quit = quit }))
-    → Divides rest unserved left → (is_cut end ≡ false → quit ≡ false → unserved ≡ [])
-    → extra ≤ 1 → (is_cut end ≡ false → extra ≡ 0) → ((k : ℕ) → now.moment k ≡ moment (extra + k)) → (end ≢ ends.WriteFault → pending ≡ [])
+    → TakesBytes before.left now.left taken
+    → (p : Advances (begin before taken) (record { rest = rest; history = events_of 0 history; pending = pending; held = now.held; moment = moment; features = features; quit = quit }))
+    → Divides taken (bytes_of p.served ++ unserved) left → (is_cut end ≡ false → quit ≡ false → unserved ≡ [])
+    → extra ≤ 1 → (is_cut end ≡ false → extra ≡ 0) → (extra ≢ 0 → unserved ≢ []) → (end ≡ ends.NoMemory → unserved ≢ []) → ((k : ℕ) → now.moment k ≡ moment (extra + k)) → (end ≢ ends.WriteFault → pending ≡ [])
     → IsLegalHistory history → end ≢ ends.BadWords → Comes before now taken left quit end
-    → Reads before now taken p.served p.written → (end ≢ ends.ReadFault → now.read_faults ≡ before.read_faults) → (end ≢ ends.WriteFault → now.write_faults ≡ before.write_faults)
+    → ReadsInTurn before now taken p.served p.written → (end ≢ ends.ReadFault → now.read_faults ≡ before.read_faults) → (end ≢ ends.WriteFault → now.write_faults ≡ before.write_faults)
     → IsSession before now end history
-session_from before now end history taken rest pending moment features quit extra unserved left takes p d all few exact asked whole legal not comes reads reading writing = record {
+session_from before now end history taken rest pending moment features quit extra unserved left takes p d all few exact cut_off wanting asked whole legal not comes reads reading writing = record {
   taken = taken;
   frames = bytes_of p.served ++ unserved;
   rest = left;
@@ -61,7 +70,7 @@ session_from before now end history taken rest pending moment features quit extr
   written = p.written;
   lost = pending;
   takes = takes;
-  divided = subst (λ (t : List ℕ). Divides t (bytes_of p.served ++ unserved) left) (sym p.rest) (divides_after (bytes_of p.served) p.each d);
+  divided = d;
   in_order = refl;
   quit = quit;
   stops_at_quit = p.quits;
@@ -70,7 +79,10 @@ session_from before now end history taken rest pending moment features quit extr
   extra = extra;
   few = few;
   exact = exact;
+  cut_off = cut_off;
   asked = λ k. asked k ∙ p.asked (extra + k);
+  wanting = λ is. inr (wanting is);
+  unopened = λ none. absurd (let opened = p.noted in let bare = ap (events_of 0) none in cc);
   events = events_of 0 history;
   only = legal.only;
   noted = noted_from end (events_of 0 history) p.served not p.noted;
@@ -130,38 +142,39 @@ or_true_not false b e p q = cc
 
 -- the same session, whichever way it ended: what wasn't served is divided too
 session_of : (before now : Outside) (end : End) (history : List (ℕ × EventData)) (taken rest pending : List ℕ) (moment : ℕ → Option ℕ) (features : Features) (quit : Bool) (extra : ℕ)
-    → Takes before.left now.left taken
-    → (p : Serves (begin before taken) (record { rest = rest; history = events_of 0 history; pending = pending; held = now.held; moment = moment; features = features; quit = quit }))
-    → extra ≤ 1 → (is_cut end ≡ false → extra ≡ 0) → ((k : ℕ) → now.moment k ≡ moment (extra + k)) → (end ≢ ends.WriteFault → pending ≡ [])
+    → TakesBytes before.left now.left taken
+    → (p : Advances (begin before taken) (record { rest = rest; history = events_of 0 history; pending = pending; held = now.held; moment = moment; features = features; quit = quit }))
+    → extra ≤ 1 → (is_cut end ≡ false → extra ≡ 0) → (extra ≢ 0 → BeginsWithFrame rest) → (end ≡ ends.NoMemory → BeginsWithFrame rest) → ((k : ℕ) → now.moment k ≡ moment (extra + k)) → (end ≢ ends.WriteFault → pending ≡ [])
     → IsLegalHistory history → end ≢ ends.BadWords → Comes before now taken rest quit end
-    → Reads before now taken p.served p.written → (end ≢ ends.ReadFault → now.read_faults ≡ before.read_faults) → (end ≢ ends.WriteFault → now.write_faults ≡ before.write_faults)
+    → ReadsInTurn before now taken p.served p.written → (end ≢ ends.ReadFault → now.read_faults ≡ before.read_faults) → (end ≢ ends.WriteFault → now.write_faults ≡ before.write_faults)
     → IsSession before now end history
-session_of before now end history taken rest pending moment features quit extra takes p few exact asked whole legal not comes reads reading writing =
+session_of before now end history taken rest pending moment features quit extra takes p few exact cut_off wanting asked whole legal not comes reads reading writing =
     let cut : (b : Bool) → is_cut end || quit ≡ b → IsSession before now end history =
     elim [
       | true ↦ λ is. let d = some_division rest in
-          session_from before now end history taken rest pending moment features quit extra d.0 d.1 takes p d.2 (λ other none. absurd (or_true_not (is_cut end) quit is other none)) few exact asked whole legal not (comes_anywhere end before now taken rest d.1 quit is comes) reads reading writing
+          session_from before now end history taken rest pending moment features quit extra d.0 d.1 takes p (subst (λ (t : List ℕ). Divides t (bytes_of p.served ++ d.0) d.1) (sym p.cut.whole) (divides_after (bytes_of p.served) p.cut.each d.2)) (λ other none. absurd (or_true_not (is_cut end) quit is other none)) few exact (λ some. some_frame rest d.0 d.1 d.2 (cut_off some)) (λ at. some_frame rest d.0 d.1 d.2 (wanting at)) asked whole legal not (comes_anywhere end before now taken rest d.1 quit is comes) reads reading writing
       | false ↦ λ is. session_from before now end history taken rest pending moment features quit extra [] rest takes p
-          (divides-none rest (rest_over rest (rest_from end before now taken rest quit not (or_false_left (is_cut end) quit is) (or_false_right (is_cut end) quit is) comes))) (λ _ _. refl) few exact asked whole legal not comes reads reading writing
+          (subst (λ (frames : List (List ℕ)). Divides taken frames rest) (sym (append-nil (bytes_of p.served))) (stream_divides.stopped taken (bytes_of p.served) rest p.cut (rest_from end before now taken rest quit not (or_false_left (is_cut end) quit is) (or_false_right (is_cut end) quit is) comes))) (λ _ _. refl) few exact (λ some. absurd (some (exact (or_false_left (is_cut end) quit is)))) (λ at. absurd (let c = or_false_left (is_cut end) quit is in let e = ap is_cut at in cc)) asked whole legal not comes reads reading writing
     ] in
     cut (is_cut end || quit) refl
 
 -- more was served and written since the last read
-reads_more : (before mid now : Outside) (taken : List ℕ) (served later served' : List Exchange) (written more written' : List ℕ) → now.left_before ≡ mid.left_before → served' ≡ served ++ later → written' ≡ written ++ more
-    → Reads before mid taken served written → Reads before now taken served' written'
-reads_more before mid now taken served later served' written more written' left s w (inl u) = inl (record { none = u.none; left_before = left ∙ u.left_before })
-reads_more before mid now taken served later served' written more written' left s w (inr l) = inr (record {
+reads_more : (before mid now : Outside) (taken : List ℕ) (served later served' : List Exchange) (written more written' : List ℕ) → IsReadNoMore mid now → served' ≡ served ++ later → written' ≡ written ++ more
+    → ReadsInTurn before mid taken served written → ReadsInTurn before now taken served' written'
+reads_more before mid now taken served later served' written more written' same s w (inl u) = inl (record { none = u.none; left_before = same.left ∙ u.left_before; ended_before = same.ended ∙ u.ended_before })
+reads_more before mid now taken served later served' written more written' same s w (inr l) = inr (record {
   earlier = l.earlier;
   last = l.last;
   parts = l.parts;
-  takes = subst (λ (o : Option (List ℕ)). Takes before.left o l.earlier) (sym left) l.takes;
+  takes = subst (λ (o : Option (List ℕ)). TakesBytes before.left o l.earlier) (sym same.left) l.takes;
   under = l.under;
+  going = same.ended ∙ l.going;
   first = l.first;
   later = l.later ++ later;
   rest = l.rest;
   more = l.more ++ more;
   order = s ∙ ap (λ x. x ++ later) l.order ∙ append_assoc l.first l.later later;
-  divided = l.divided;
+  cut = l.cut;
   partial = l.partial;
   quits = l.quits;
   texts = w ∙ ap (λ x. x ++ more) l.texts ∙ append_assoc (texts_of no_features l.first) l.more more;
@@ -189,17 +202,17 @@ exact_from : (end : End) (extra : ℕ) → (end ≢ ends.NoMemory → extra ≡ 
 exact_from end extra exact cut = exact (λ is. absurd (let e = ap is_cut is in cc))
 
 -- a session that stopped, and then wrote its last answers
-session_written : (before mid now : Outside) (end final : End) (front : Front) (s : Stops before mid end front) (w : Written end final front.conn.out.bytes mid.held now.held mid.write_faults now.write_faults)
-    → now.left ≡ mid.left → now.left_before ≡ mid.left_before → now.has_ended ≡ mid.has_ended → now.read_faults ≡ mid.read_faults → ((k : ℕ) → now.moment k ≡ mid.moment k)
-    → IsSession before now final front.history
-session_written before mid now end final front s w left earlier ended read moment =
-    let here : Stand = record { rest = s.rest; history = events_of 0 front.history; pending = s.pending; held = mid.held; moment = s.moment; features = front.conn.features; quit = is_quit_end end } in
+session_written : (before mid now : Outside) (end final : End) (responder : Responder) (s : Stops before mid end responder) (w : Written end final responder.conn.out.bytes mid.held now.held mid.write_faults now.write_faults)
+    → now.left ≡ mid.left → IsReadNoMore mid now → now.has_ended ≡ mid.has_ended → now.read_faults ≡ mid.read_faults → ((k : ℕ) → now.moment k ≡ mid.moment k)
+    → IsSession before now final responder.history
+session_written before mid now end final responder s w left earlier ended read moment =
+    let here : Stand = record { rest = s.rest; history = events_of 0 responder.history; pending = s.pending; held = mid.held; moment = s.moment; features = responder.conn.features; quit = is_quit_end end } in
     let pending = subst (λ (l : List ℕ). Writes l [] mid.held now.held) (sym (s.kept w.able)) w.writes in
-    subst (λ (e : End). IsSession before now e front.history) (sym w.same)
-    (session_of before now end front.history s.taken s.rest [] s.moment front.conn.features (is_quit_end end) s.extra
-    (subst (λ (o : Option (List ℕ)). Takes before.left o s.taken) (sym left) s.takes)
+    subst (λ (e : End). IsSession before now e responder.history) (sym w.same)
+    (session_of before now end responder.history s.taken s.rest [] s.moment responder.conn.features (is_quit_end end) s.extra
+    (subst (λ (o : Option (List ℕ)). TakesBytes before.left o s.taken) (sym left) s.takes)
     (serves_then _ here _ s.serves (serves_writes here [] now.held pending))
-    s.few (exact_from end s.extra s.exact) (λ k. moment k ∙ s.asked k) (λ _. refl) s.legal s.served
+    s.few (exact_from end s.extra s.exact) s.cut_off s.wanting (λ k. moment k ∙ s.asked k) (λ _. refl) s.legal s.served
     (comes_later end before mid now s.taken s.rest (is_quit_end end) left ended read w.quiet s.comes)
     (reads_more before mid now s.taken s.serves.served [] _ s.serves.written pending.written _ earlier
     (serves_then-served _ here _ s.serves _ ∙ ap (λ l. s.serves.served ++ l) (serves_writes-served here [] now.held pending))
@@ -207,17 +220,17 @@ session_written before mid now end final front s w left earlier ended read momen
     (λ not. read ∙ s.reading not) (λ able. w.quiet ∙ s.writing able))
 
 -- a session that stopped, and then lost some of its last answers
-session_lost : (before mid now : Outside) (end final : End) (front : Front) (s : Stops before mid end front) (w : Lost end final front.conn.out.bytes mid.held now.held mid.write_faults now.write_faults)
-    → now.left ≡ mid.left → now.left_before ≡ mid.left_before → now.read_faults ≡ mid.read_faults → ((k : ℕ) → now.moment k ≡ mid.moment k)
-    → IsSession before now final front.history
-session_lost before mid now end final front s w left earlier read moment =
-    let here : Stand = record { rest = s.rest; history = events_of 0 front.history; pending = s.pending; held = mid.held; moment = s.moment; features = front.conn.features; quit = is_quit_end end } in
+session_lost : (before mid now : Outside) (end final : End) (responder : Responder) (s : Stops before mid end responder) (w : Lost end final responder.conn.out.bytes mid.held now.held mid.write_faults now.write_faults)
+    → now.left ≡ mid.left → IsReadNoMore mid now → now.read_faults ≡ mid.read_faults → ((k : ℕ) → now.moment k ≡ mid.moment k)
+    → IsSession before now final responder.history
+session_lost before mid now end final responder s w left earlier read moment =
+    let here : Stand = record { rest = s.rest; history = events_of 0 responder.history; pending = s.pending; held = mid.held; moment = s.moment; features = responder.conn.features; quit = is_quit_end end } in
     let pending = subst (λ (l : List ℕ). Writes l w.lost mid.held now.held) (sym (s.kept w.able)) w.writes in
-    subst (λ (e : End). IsSession before now e front.history) (sym w.fault)
-    (session_of before now ends.WriteFault front.history s.taken s.rest w.lost s.moment front.conn.features (is_quit_end end) s.extra
-    (subst (λ (o : Option (List ℕ)). Takes before.left o s.taken) (sym left) s.takes)
+    subst (λ (e : End). IsSession before now e responder.history) (sym w.fault)
+    (session_of before now ends.WriteFault responder.history s.taken s.rest w.lost s.moment responder.conn.features (is_quit_end end) s.extra
+    (subst (λ (o : Option (List ℕ)). TakesBytes before.left o s.taken) (sym left) s.takes)
     (serves_then _ here _ s.serves (serves_writes here w.lost now.held pending))
-    s.few (λ cut. cc) (λ k. moment k ∙ s.asked k) (λ not. absurd (not refl)) s.legal (λ e. cc)
+    s.few (λ cut. cc) s.cut_off (λ e. cc) (λ k. moment k ∙ s.asked k) (λ not. absurd (not refl)) s.legal (λ e. cc)
     (rose_from _ _ _ (s.writing w.able) w.why)
     (reads_more before mid now s.taken s.serves.served [] _ s.serves.written pending.written _ earlier
     (serves_then-served _ here _ s.serves _ ∙ ap (λ l. s.serves.served ++ l) (serves_writes-served here w.lost now.held pending))
@@ -225,18 +238,17 @@ session_lost before mid now end final front s w left earlier read moment =
     (λ _. read ∙ s.reading (λ is. w.some (s.flushed is))) (λ not. absurd (not refl)))
 
 -- a session that a fault of writing stopped
-session_broken : (before mid now : Outside) (end final : End) (front : Front) (s : Stops before mid end front) (w : Broken end final mid.held now.held mid.write_faults now.write_faults)
-    → now.left ≡ mid.left → now.left_before ≡ mid.left_before → now.has_ended ≡ mid.has_ended → now.read_faults ≡ mid.read_faults → ((k : ℕ) → now.moment k ≡ mid.moment k)
-    → IsSession before now final front.history
-session_broken before mid now end final front s w left earlier ended read moment =
-    subst (λ (e : End). IsSession before now e front.history) (w.before ∙ sym w.fault)
-    (session_of before now end front.history s.taken s.rest s.pending s.moment front.conn.features (is_quit_end end) s.extra
-    (subst (λ (o : Option (List ℕ)). Takes before.left o s.taken) (sym left) s.takes)
+session_broken : (before mid now : Outside) (end final : End) (responder : Responder) (s : Stops before mid end responder) (w : Broken end final mid.held now.held mid.write_faults now.write_faults)
+    → now.left ≡ mid.left → IsReadNoMore mid now → now.has_ended ≡ mid.has_ended → now.read_faults ≡ mid.read_faults → ((k : ℕ) → now.moment k ≡ mid.moment k)
+    → IsSession before now final responder.history
+session_broken before mid now end final responder s w left earlier ended read moment =
+    subst (λ (e : End). IsSession before now e responder.history) (w.before ∙ sym w.fault)
+    (session_of before now end responder.history s.taken s.rest s.pending s.moment responder.conn.features (is_quit_end end) s.extra
+    (subst (λ (o : Option (List ℕ)). TakesBytes before.left o s.taken) (sym left) s.takes)
     (record {
       served = s.serves.served;
       written = s.serves.written;
-      rest = s.serves.rest;
-      each = s.serves.each;
+      cut = s.serves.cut;
       noted = s.serves.noted;
       texts = s.serves.texts;
       features = s.serves.features;
@@ -245,23 +257,47 @@ session_broken before mid now end final front s w left earlier ended read moment
       moments = s.serves.moments;
       asked = s.serves.asked;
     })
-    s.few (exact_from end s.extra s.exact) (λ k. moment k ∙ s.asked k) (λ not. absurd (not w.before)) s.legal s.served
+    s.few (exact_from end s.extra s.exact) s.cut_off s.wanting (λ k. moment k ∙ s.asked k) (λ not. absurd (not w.before)) s.legal s.served
     (comes_later end before mid now s.taken s.rest (is_quit_end end) left ended read w.quiet s.comes)
     (reads_more before mid now s.taken s.serves.served [] _ s.serves.written [] _ earlier (sym (append-nil s.serves.served)) (sym (append-nil s.serves.written)) s.reads)
     (λ not. read ∙ s.reading not) (λ able. w.quiet ∙ s.writing able))
 
-pub session_finished : (before mid now : Outside) (end final : End) (front : Front) → Stops before mid end front → Finishes end final front.conn.out.bytes mid.held now.held mid.write_faults now.write_faults
-    → now.left ≡ mid.left → now.left_before ≡ mid.left_before → now.has_ended ≡ mid.has_ended → now.read_faults ≡ mid.read_faults → ((k : ℕ) → now.moment k ≡ mid.moment k)
-    → IsSession before now final front.history
-session_finished before mid now end final front s (inl w) left earlier ended read moment = session_written before mid now end final front s w left earlier ended read moment
-session_finished before mid now end final front s (inr (inl w)) left earlier ended read moment = session_lost before mid now end final front s w left earlier read moment
-session_finished before mid now end final front s (inr (inr w)) left earlier ended read moment = session_broken before mid now end final front s w left earlier ended read moment
+pub session_finished : (before mid now : Outside) (end final : End) (responder : Responder) → Stops before mid end responder → Finishes end final responder.conn.out.bytes mid.held now.held mid.write_faults now.write_faults
+    → now.left ≡ mid.left → IsReadNoMore mid now → now.has_ended ≡ mid.has_ended → now.read_faults ≡ mid.read_faults → ((k : ℕ) → now.moment k ≡ mid.moment k)
+    → IsSession before now final responder.history
+session_finished before mid now end final responder s (inl w) left earlier ended read moment = session_written before mid now end final responder s w left earlier ended read moment
+session_finished before mid now end final responder s (inr (inl w)) left earlier ended read moment = session_lost before mid now end final responder s w left earlier read moment
+session_finished before mid now end final responder s (inr (inr w)) left earlier ended read moment = session_broken before mid now end final responder s w left earlier ended read moment
 
 -- no session is finished as bad words
 pub finished_served : (end final : End) (pending : List ℕ) (old new : Option (List ℕ)) (f0 f1 : ℕ) → end ≢ ends.BadWords → Finishes end final pending old new f0 f1 → final ≢ ends.BadWords
 finished_served end final pending old new f0 f1 not (inl w) e = not (sym w.same ∙ e)
 finished_served end final pending old new f0 f1 not (inr (inl w)) e = let f = w.fault in cc
 finished_served end final pending old new f0 f1 not (inr (inr w)) e = let f = w.fault in cc
+
+unopened_noted : (end : End) → EndsUnopened end → IsNoted end [] []
+unopened_noted ends.BadWords opens = (refl, refl)
+unopened_noted ends.NoMemory opens = inl (refl, refl)
+unopened_noted (ends.BadMagic at) opens = absurd opens
+unopened_noted (ends.TooLong at) opens = absurd opens
+unopened_noted (ends.Torn at) opens = absurd opens
+unopened_noted ends.Limit opens = absurd opens
+unopened_noted ends.ReadFault opens = absurd opens
+unopened_noted ends.WriteFault opens = absurd opens
+unopened_noted ends.Quit opens = absurd opens
+unopened_noted ends.Closed opens = absurd opens
+
+unopened_comes : (before : Outside) (end : End) → EndsUnopened end → Comes before before [] [] false end
+unopened_comes before ends.BadWords opens = (refl, refl)
+unopened_comes before ends.NoMemory opens = refl
+unopened_comes before (ends.BadMagic at) opens = absurd opens
+unopened_comes before (ends.TooLong at) opens = absurd opens
+unopened_comes before (ends.Torn at) opens = absurd opens
+unopened_comes before ends.Limit opens = absurd opens
+unopened_comes before ends.ReadFault opens = absurd opens
+unopened_comes before ends.WriteFault opens = absurd opens
+unopened_comes before ends.Quit opens = absurd opens
+unopened_comes before ends.Closed opens = absurd opens
 
 -- a session that didn't begin took, served and wrote nothing
 pub session_none : (before : Outside) (end : End) → IsNoted end [] [] → Comes before before [] [] false end → IsSession before before end []
@@ -283,7 +319,10 @@ session_none before end noted comes = record {
   extra = 0;
   few = omega arith;
   exact = λ _. refl;
+  cut_off = λ some. absurd (some refl);
   asked = λ k. ap before.moment (omega arith);
+  wanting = λ _. inl refl;
+  unopened = λ _. (refl, refl);
   events = [];
   only = refl;
   noted = noted;
@@ -292,10 +331,10 @@ session_none before end noted comes = record {
   texts = refl;
   whole = λ _. refl;
   comes = comes;
-  reads = inl (record { none = refl; left_before = refl });
+  reads = inl (record { none = refl; left_before = refl; ended_before = refl });
   reading = λ _. refl;
   writing = λ _. refl;
 }
 
-pub session_unopened : (before : Outside) (end : End) (history : List (ℕ × EventData)) → history ≡ [] → IsNoted end [] [] → Comes before before [] [] false end → IsSession before before end history
-session_unopened before end history none noted comes = subst (λ (h : List (ℕ × EventData)). IsSession before before end h) (sym none) (session_none before end noted comes)
+pub session_unopened : (before : Outside) (end : End) (history : List (ℕ × EventData)) → EndsUnopened end → history ≡ [] → IsSession before before end history
+session_unopened before end history opens none = subst (λ (h : List (ℕ × EventData)). IsSession before before end h) (sym none) (session_none before end (unopened_noted end opens) (unopened_comes before end opens))

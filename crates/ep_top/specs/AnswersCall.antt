@@ -10,7 +10,7 @@ use Rattle.mcbp_frame.specs.declared.frame.FrameData.{FrameData}
 use Rattle.mcbp_ops.specs.Text.{reply_text}
 use Rattle.conn_core.specs.declared.conn.Conn.{Conn}
 
-pub record Calls (frame : FrameData) (call : CallData) (now : ℕ) (old_world new_world : World) (before after : List (ℕ × EventData)) (old new : Conn) : Type 0 where
+pub record AnswersCall (frame : FrameData) (call : CallData) (now : ℕ) (old_world new_world : World) (before after : List (ℕ × EventData)) (old new : Conn) : Type 0 where
   pub reply : Reply
   pub value : List ℕ
   pub replied : reply ≡ (answer old_world call now).reply

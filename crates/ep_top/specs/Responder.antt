@@ -10,8 +10,11 @@ use Rattle.ep_model.specs.Front.{empty_start, world_of}
 use Rattle.ep_model.specs.Legal.{IsLegal}
 use Rattle.vb_world.specs.History.{events_of, under}
 use Rattle.mcbp_frame.specs.declared.frame.FrameData.{FrameData}
-use Rattle.ep_top.specs.declared.front.Front.{Front}
-use Rattle.conn_core.specs.Conns.{out_room, value_room}
+use Rattle.ep_top.specs.declared.responder.Responder.{Responder}
+use Rattle.ep_top.specs.declared.responder.Served.{Served}
+use Rattle.ep_top.specs.declared.responder.Served.TheVariants as serveds
+use Rattle.ep_model.specs.Limits.{value_room}
+use Rattle.conn_core.specs.Conns.{out_room}
 use Rattle.conn_core.specs.Acts.{features_after}
 use Rattle.conn_core.specs.Exchange.{is_quit}
 use Rattle.ep_top.specs.Exchange.{act_in, event_in, text_in}
@@ -30,7 +33,7 @@ pub record IsLegalHistory (pairs : List (ℕ × EventData)) : Type 0 where
   pub legal : IsLegal (session_front (events_of 0 pairs))
 
 -- the plain map is in the world that the history leaves, which is legal, and no room was lost
-pub record IsSound (f : Front) : Type 0 where
+pub record IsSound (f : Responder) : Type 0 where
   pub world : f.plain ≡ world_of (session_front (events_of 0 f.history))
   pub legal : IsLegalHistory f.history
   pub opened : f.plain.opened ≡ true
@@ -38,13 +41,13 @@ pub record IsSound (f : Front) : Type 0 where
   pub value : f.conn.value.spare + length f.conn.value.bytes ≡ value_room
 
 -- it has opened, and nothing else
-pub record IsFresh (f : Front) : Type 0 where
+pub record IsFresh (f : Responder) : Type 0 where
   pub history : f.history ≡ (0, Opened) ∷ []
   pub answers : f.conn.out.bytes ≡ []
   pub features : f.conn.features.seqno ≡ false
 
 -- one frame was answered at the moment that the clock gave; `quit` says that it was a Quit
-pub record Answered (frame : FrameData) (before next : ℕ → Option ℕ) (quit : Bool) (old new : Front) : Type 0 where
+pub record Responds (frame : FrameData) (before next : ℕ → Option ℕ) (quit : Bool) (old new : Responder) : Type 0 where
   pub now : ℕ
   pub reply : Reply
   pub value : List ℕ
@@ -54,3 +57,16 @@ pub record Answered (frame : FrameData) (before next : ℕ → Option ℕ) (quit
   pub text : new.conn.out.bytes ≡ old.conn.out.bytes ++ text_in old.conn.features frame reply value
   pub features : new.conn.features ≡ features_after old.conn.features frame
   pub quits : is_quit (act_in frame) ≡ quit
+
+-- whether a Quit was served
+abbrev pub is_quit_served : Served → Bool
+is_quit_served serveds.GoesOn = false
+is_quit_served serveds.Quits = true
+
+-- nothing changed but which answers are pending, and their buffer keeps its room
+pub record KeepsAllButAnswers (old new : Responder) : Type 0 where
+  pub plain : new.plain ≡ old.plain
+  pub history : new.history ≡ old.history
+  pub features : new.conn.features ≡ old.conn.features
+  pub value : new.conn.value ≡ old.conn.value
+  pub room : new.conn.out.spare + length new.conn.out.bytes ≡ old.conn.out.spare + length old.conn.out.bytes

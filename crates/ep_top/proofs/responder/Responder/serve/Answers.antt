@@ -7,8 +7,8 @@ use Rattle.mcbp_ops.specs.Text.{status_text}
 use Rattle.conn_core.specs.declared.act.ActData.TheVariants as acts
 use Rattle.conn_core.proofs.ActLemmas.{engine_silent, stat_silent, engine_features}
 use Rattle.ep_top.specs.Exchange.{vbuckets}
-use Rattle.ep_top.proofs.Fronts.{answered_call, answered_frame, sound_after_call, err_three}
-use Rattle.ep_top.proofs.front.Front.serve.Goals as goal
+use Rattle.ep_top.proofs.ResponderLemmas.{answered_call, answered_frame, sound_after_call, err_three}
+use Rattle.ep_top.proofs.responder.Responder.serve.Goals as goal
 
 -- what was pending is pending still where the connection wrote nothing
 still : (new old own : List ℕ) → new ≡ old ++ own → own ≡ [] → new ≡ old

@@ -2,8 +2,8 @@
 use Rattle.std.proofs.Common.{◌∙◌, ◌++◌, ◌∷◌, [], ℕ, List, ap}
 use Rattle.ep_model.specs.declared.data.EventData.{EventData}
 use Rattle.ep_model.specs.declared.data.EventData.TheVariants.{Opened}
-use Rattle.ep_top.proofs.Fronts.{sound_fresh}
-use Rattle.ep_top.proofs.front.Front.open.Goals as goal
+use Rattle.ep_top.proofs.ResponderLemmas.{sound_fresh}
+use Rattle.ep_top.proofs.responder.Responder.open.Goals as goal
 
 pub returns-clause-sound : goal.returns-clause-sound
 returns-clause-sound c =

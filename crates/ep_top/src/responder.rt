@@ -2,19 +2,18 @@
 ghost use Rattle.std.specs.Prelude.{◌≡◌, ◌≢◌, ◌+◌, ◌<◌, ◌≤◌, ◌^◌, ◌++◌, ℕ, List, [], ◌∷◌, length, IfOk, OnOk, OnErr};
 ghost use Rattle.ep_model.specs.Counts.{RoseByOne};
 ghost use Rattle.ep_model.specs.History.{call_data};
-ghost use Rattle.ep_model.specs.Limits.{IsWithin};
+ghost use Rattle.ep_model.specs.Limits.{IsMoment, IsWithin, value_room};
 ghost use Rattle.ep_model.specs.declared.data.EventData.TheVariants.{Called};
 ghost use Rattle.mcbp_frame.specs.Frames.{frame_data};
 ghost use Rattle.mcbp_ops.specs.Text.{reply_text};
-ghost use Rattle.conn_core.specs.Conns.{value_room};
-ghost use Rattle.ep_top.specs.Calls.{Calls};
-ghost use Rattle.ep_top.specs.Stand.{Writes};
+ghost use Rattle.ep_top.specs.AnswersCall.{AnswersCall};
+ghost use Rattle.ep_top.specs.Stand.{Writes, LosesSome};
 
 use conn_core::{Act, Conn, put_status};
 use ep_edge::{Clock, Put, Sink};
-use ep_model::{Call, Event, NoMemory, Out, Plain, Reply, status};
+use ep_model::{Call, Event, NoMemory, Plain, Reply, status};
 use mcbp_frame::Frame;
-use mcbp_ops::reply_text;
+use mcbp_ops::{reply_text, reply_text_fits};
 use std::alloc::Global;
 use vb_world::History;
 
@@ -24,46 +23,56 @@ pub const VBUCKETS: u16 = 1;
 /// Above so many bytes answers are written before the next frame is served.
 pub const MAX_PENDING: usize = 1_048_576;
 
+/// What becomes of a session behind a frame that was answered.
+#[derive(Clone, Copy, Debug, PartialEq, Eq)]
+pub enum Served {
+    /// It goes on.
+    GoesOn,
+    /// The frame was a Quit, behind which nothing is served.
+    Quits,
+}
+
+/// The plain map, the history of its calls, and the connection with the answers that aren't written yet.
 #[derive(Drop)]
-pub struct Front {
+pub struct Responder {
     pub plain: Plain,
     pub history: History,
     pub conn: Conn,
 }
 
-impl Front {
-    ghost use Rattle.ep_top.specs.Front.{IsSound, IsFresh, Answered};
+impl Responder {
+    ghost use Rattle.ep_top.specs.Responder.{IsSound, IsFresh, Responds, KeepsAllButAnswers, is_quit_served};
 
     /// An empty vBucket that has opened, and a connection.
-    pub fn open(alloc: Global) -> Result<Front, NoMemory>
+    pub fn open(alloc: Global) -> Result<Responder, NoMemory>
         ensures fresh { IfOk result IsFresh }
         ensures sound { IfOk result IsSound }
     {
         let mut history = History::new(alloc);
         history.note(0, &Event::Opened)?;
-        Ok(Front {
+        Ok(Responder {
             plain: Plain::new(alloc),
             history,
             conn: Conn::new(alloc)?,
         })
     }
 
-    /// Answers one frame, and asks the clock once for it. True where it was a Quit.
-    pub fn serve<C: Clock>(&mut self, frame: &Frame, clock: &mut C) -> Result<bool, NoMemory>
+    /// Answers one frame, and asks the clock once for it.
+    pub fn serve<C: Clock>(&mut self, frame: &Frame, clock: &mut C) -> Result<Served, NoMemory>
         requires sound { IsSound self.old }
         requires room { length self.old.conn.out.bytes ≤ MAX_PENDING }
         ensures sound { OnOk result (IsSound self.new) }
-        ensures answered { IfOk result (λ quit. Answered (frame_data frame.now) (C.moment clock.old) (C.moment clock.new) quit self.old self.new) }
+        ensures answered { IfOk result (λ served. Responds (frame_data frame.now) (C.moment clock.old) (C.moment clock.new) (is_quit_served served) self.old self.new) }
         ensures err { OnErr result ((self.new.history ≡ self.old.history) × (self.new.conn.out.bytes ≡ self.old.conn.out.bytes) × (self.new.conn.features ≡ self.old.conn.features)) }
         ensures asked { (k : ℕ) → C.moment clock.new k ≡ C.moment clock.old (k + 1) }
     {
         let now = clock.now();
         match self.conn.sort_frame(frame, VBUCKETS) {
-            Act::Answered => Ok(false),
-            Act::Quit => Ok(true),
+            Act::Answered => Ok(Served::GoesOn),
+            Act::Quit => Ok(Served::Quits),
             Act::Stat(_) => {
                 put_status(&mut self.conn.out, frame, status::KEY_NOT_FOUND);
-                Ok(false)
+                Ok(Served::GoesOn)
             }
             Act::Engine(call) => {
                 answer_call(
@@ -74,9 +83,43 @@ impl Front {
                     &call,
                     now,
                 )?;
-                Ok(false)
+                Ok(Served::GoesOn)
             }
         }
+    }
+
+    /// Writes the answers that aren't written yet. After a fault some of them are lost.
+    pub fn flush<W: Sink>(&mut self, sink: &mut W) -> Put
+        ensures done { result ≡ Put.Done → Writes self.old.conn.out.bytes self.new.conn.out.bytes (W.held sink.old) (W.held sink.new) × (self.new.conn.out.bytes ≡ []) }
+        ensures failed { result ≡ Put.Failed → LosesSome self.old.conn.out.bytes (W.held sink.old) (W.held sink.new) × RoseByOne (W.faults sink.old) (W.faults sink.new) }
+        ensures some { result ≡ Put.Failed → self.old.conn.out.bytes ≢ [] }
+        ensures quiet { result ≡ Put.Done → W.faults sink.new ≡ W.faults sink.old }
+        ensures kept { KeepsAllButAnswers self.old self.new }
+        ensures sound { IsSound self.old → IsSound self.new }
+    {
+        if self.conn.out.bytes().is_empty() {
+            return Put::Done;
+        }
+        let put = sink.write(self.conn.out.bytes());
+        match put {
+            Put::Done => self.conn.out.cut(0),
+            Put::Failed => {}
+        }
+        put
+    }
+
+    /// Writes the answers where they are many, so that one more has room.
+    pub fn make_room<W: Sink>(&mut self, sink: &mut W) -> Put
+        ensures done { result ≡ Put.Done → Writes self.old.conn.out.bytes self.new.conn.out.bytes (W.held sink.old) (W.held sink.new) × (length self.new.conn.out.bytes ≤ MAX_PENDING) }
+        ensures failed { result ≡ Put.Failed → LosesSome self.old.conn.out.bytes (W.held sink.old) (W.held sink.new) × RoseByOne (W.faults sink.old) (W.faults sink.new) }
+        ensures quiet { result ≡ Put.Done → W.faults sink.new ≡ W.faults sink.old }
+        ensures kept { KeepsAllButAnswers self.old self.new }
+        ensures sound { IsSound self.old → IsSound self.new }
+    {
+        if self.conn.out.bytes().len() <= MAX_PENDING {
+            return Put::Done;
+        }
+        self.flush(sink)
     }
 }
 
@@ -89,20 +132,20 @@ fn answer_call(
     call: &Call,
     now: u64,
 ) -> Result<(), NoMemory>
-    requires moment { now < 2 ^ 62 }
+    requires moment { IsMoment now }
     requires within { IsWithin (call_data call.now) }
-    requires head { frame.now.extras_len + frame.now.key_len ≤ length frame.now.body.now }
     requires spare { 2097152 ≤ conn.old.out.spare }
     requires value { conn.old.value.spare + length conn.old.value.bytes ≡ value_room }
-    ensures called { OnOk result (Calls (frame_data frame.now) (call_data call.now) now plain.old plain.new history.old history.new conn.old conn.new) }
+    ensures called { OnOk result (AnswersCall (frame_data frame.now) (call_data call.now) now plain.old plain.new history.old history.new conn.old conn.new) }
     ensures err { OnErr result ((history.new ≡ history.old) × (conn.new.out.bytes ≡ conn.old.out.bytes) × (conn.new.features ≡ conn.old.features)) }
 {
-    // That it is read tells its range, which bounds the answer's length.
+    // Reading it tells its range, without which the answer's length has no bound.
     let _key_len = frame.key_len;
     conn.value.cut(0);
     let reply = plain.answer(call, now, &mut conn.value)?;
     let value = conn.value.bytes();
     note_call(history, call, now, reply, value)?;
+    reply_text_fits();
     reply_text(frame, &reply, value, conn.features.seqno, &mut conn.out);
     Ok(())
 }
@@ -126,36 +169,4 @@ fn note_call(
         value,
     };
     history.note(0, &event)
-}
-
-/// Writes the answers that aren't written yet. After a fault some of them are lost.
-pub fn flush<W: Sink>(answers: &mut Out, sink: &mut W) -> Put
-    ensures done { result ≡ Put.Done → Writes answers.old.bytes answers.new.bytes (W.held sink.old) (W.held sink.new) × (answers.new.bytes ≡ []) }
-    ensures failed { result ≡ Put.Failed → ((lost : List ℕ) × Writes answers.old.bytes lost (W.held sink.old) (W.held sink.new)) × RoseByOne (W.faults sink.old) (W.faults sink.new) }
-    ensures some { result ≡ Put.Failed → answers.old.bytes ≢ [] }
-    ensures room { answers.new.spare + length answers.new.bytes ≡ answers.old.spare + length answers.old.bytes }
-    ensures quiet { result ≡ Put.Done → W.faults sink.new ≡ W.faults sink.old }
-{
-    if answers.bytes().is_empty() {
-        return Put::Done;
-    }
-    let put = sink.write(answers.bytes());
-    match put {
-        Put::Done => answers.cut(0),
-        Put::Failed => {}
-    }
-    put
-}
-
-/// Writes the answers where they are many, so that one more has room.
-pub fn make_room<W: Sink>(answers: &mut Out, sink: &mut W) -> Put
-    ensures done { result ≡ Put.Done → Writes answers.old.bytes answers.new.bytes (W.held sink.old) (W.held sink.new) × (length answers.new.bytes ≤ MAX_PENDING) }
-    ensures failed { result ≡ Put.Failed → ((lost : List ℕ) × Writes answers.old.bytes lost (W.held sink.old) (W.held sink.new)) × RoseByOne (W.faults sink.old) (W.faults sink.new) }
-    ensures room { answers.new.spare + length answers.new.bytes ≡ answers.old.spare + length answers.old.bytes }
-    ensures quiet { result ≡ Put.Done → W.faults sink.new ≡ W.faults sink.old }
-{
-    if answers.bytes().len() <= MAX_PENDING {
-        return Put::Done;
-    }
-    flush(answers, sink)
 }

@@ -19,11 +19,11 @@ use Rattle.mcbp_frame.proofs.DivisionLemmas.{first_whole, frame_length_front}
 use Rattle.vb_world.specs.History.{events_of}
 use Rattle.ep_top.specs.declared.end.End.{End}
 use Rattle.ep_top.specs.declared.end.End.TheVariants as ends
-use Rattle.ep_top.specs.declared.front.Front.{Front}
+use Rattle.ep_top.specs.declared.responder.Responder.{Responder}
 use Rattle.conn_core.specs.Exchange.{Exchange, features_of, is_quit, frame_of, AreMoments}
 use Rattle.ep_top.specs.Exchange.{event_of, text_of, texts_of, act_in, StopsAtQuit}
-use Rattle.ep_top.specs.Front.{Answered}
-use Rattle.ep_top.specs.Stand.{Stand, stand, bytes_of, Serves, Writes, is_quit_end, HasStopped, Breaks}
+use Rattle.ep_top.specs.Responder.{Responds, KeepsAllButAnswers}
+use Rattle.ep_top.specs.Stand.{Stand, stand, bytes_of, Advances, Writes, LosesSome, BeginsWithFrame, is_quit_end, HasStopped, Breaks}
 
 pub appends_nothing : (held : Option (List ℕ)) → Appends held held []
 appends_nothing None = refl
@@ -69,12 +69,11 @@ quits-append a b c [] ys p q = subst (λ (x : Bool). StopsAtQuit x ys c) p q
 quits-append a b c (x ∷ xs) ys p q = (p.0, quits-append (is_quit (act_in (frame_of x))) b c xs ys p.1 q)
 
 -- nothing was served and nothing written
-pub serves_nothing : (s : Stand) → Serves s s
+pub serves_nothing : (s : Stand) → Advances s s
 serves_nothing s = record {
   served = [];
   written = [];
-  rest = refl;
-  each = tt;
+  cut = record { whole = refl; each = tt };
   noted = sym (append-nil s.history);
   texts = sym (append-nil s.pending);
   features = refl;
@@ -84,14 +83,16 @@ serves_nothing s = record {
   asked = λ k. ap s.moment (sym (zero-add k));
 }
 
-pub serves_then : (a b c : Stand) → Serves a b → Serves b c → Serves a c
+pub serves_then : (a b c : Stand) → Advances a b → Advances b c → Advances a c
 serves_then a b c p q = record {
   served = p.served ++ q.served;
   written = p.written ++ q.written;
-  rest =
-      p.rest ∙ ap (λ l. concat (bytes_of p.served) ++ l) q.rest ∙ sym (append_assoc (concat (bytes_of p.served)) (concat (bytes_of q.served)) c.rest)
-      ∙ ap (λ l. l ++ c.rest) (sym (bytes_of-append p.served q.served));
-  each = subst (λ (l : List (List ℕ)). AllByRecursion IsFrame l) (sym (map-append (λ (x : Exchange). x.bytes) p.served q.served)) (all-append IsFrame (bytes_of p.served) (bytes_of q.served) p.each q.each);
+  cut = record {
+    whole =
+        p.cut.whole ∙ ap (λ l. concat (bytes_of p.served) ++ l) q.cut.whole ∙ sym (append_assoc (concat (bytes_of p.served)) (concat (bytes_of q.served)) c.rest)
+        ∙ ap (λ l. l ++ c.rest) (sym (bytes_of-append p.served q.served));
+    each = subst (λ (l : List (List ℕ)). AllByRecursion IsFrame l) (sym (map-append (λ (x : Exchange). x.bytes) p.served q.served)) (all-append IsFrame (bytes_of p.served) (bytes_of q.served) p.cut.each q.cut.each);
+  };
   noted =
       q.noted ∙ ap (λ l. l ++ flat_map event_of q.served) p.noted ∙ append_assoc a.history (flat_map event_of p.served) (flat_map event_of q.served)
       ∙ ap (λ l. a.history ++ l) (sym (flat_map-append event_of p.served q.served));
@@ -108,12 +109,11 @@ serves_then a b c p q = record {
 }
 
 -- some of the pending answers were written
-pub serves_writes : (s : Stand) (left : List ℕ) (held : Option (List ℕ)) → Writes s.pending left s.held held → Serves s (record s { pending = left; held = held })
+pub serves_writes : (s : Stand) (left : List ℕ) (held : Option (List ℕ)) → Writes s.pending left s.held held → Advances s (record s { pending = left; held = held })
 serves_writes s left held w = record {
   served = [];
   written = w.written;
-  rest = refl;
-  each = tt;
+  cut = record { whole = refl; each = tt };
   noted = sym (append-nil s.history);
   texts = sym w.parts ∙ sym (append-nil s.pending);
   features = refl;
@@ -123,11 +123,11 @@ serves_writes s left held w = record {
   asked = λ k. ap s.moment (sym (zero-add k));
 }
 
-pub serves_then-served : (a b c : Stand) (p : Serves a b) (q : Serves b c) → (serves_then a b c p q).served ≡ p.served ++ q.served
+pub serves_then-served : (a b c : Stand) (p : Advances a b) (q : Advances b c) → (serves_then a b c p q).served ≡ p.served ++ q.served
 unfolding serves_then
 serves_then-served a b c p q = refl
 
-pub serves_then-written : (a b c : Stand) (p : Serves a b) (q : Serves b c) → (serves_then a b c p q).written ≡ p.written ++ q.written
+pub serves_then-written : (a b c : Stand) (p : Advances a b) (q : Advances b c) → (serves_then a b c p q).written ≡ p.written ++ q.written
 unfolding serves_then
 serves_then-written a b c p q = refl
 
@@ -141,13 +141,12 @@ unfolding serves_writes
 serves_writes-written s left held w = refl
 
 -- one frame was answered
-pub serves_answer : (bytes rest more : List ℕ) (at : ℕ) (old new : Front) (held : Option (List ℕ)) (m later : ℕ → Option ℕ) (quit : Bool)
-    → IsFrame bytes → rest ≡ bytes ++ more → Answered (frame_at bytes at) m later quit old new → Serves (stand rest old held m false) (stand more new held later quit)
+pub serves_answer : (bytes rest more : List ℕ) (at : ℕ) (old new : Responder) (held : Option (List ℕ)) (m later : ℕ → Option ℕ) (quit : Bool)
+    → IsFrame bytes → rest ≡ bytes ++ more → Responds (frame_at bytes at) m later quit old new → Advances (stand rest old held m false) (stand more new held later quit)
 serves_answer bytes rest more at old new held m later quit frame split a = record {
   served = (record { bytes = bytes; now = a.now; reply = a.reply; value = a.value }) ∷ [];
   written = [];
-  rest = split ∙ ap (λ l. l ++ more) (sym (append-nil bytes));
-  each = (frame, tt);
+  cut = record { whole = split ∙ ap (λ l. l ++ more) (sym (append-nil bytes)); each = (frame, tt) };
   noted = a.noted ∙ ap (λ l. events_of 0 old.history ++ l) (sym (append-nil _));
   texts = a.text ∙ ap (λ l. old.conn.out.bytes ++ l) (sym (append-nil _));
   features = a.features;
@@ -158,7 +157,7 @@ serves_answer bytes rest more at old new held m later quit frame split a = recor
 }
 
 -- serving stopped where it stands
-pub breaks_here : (end : End) (old new : Stand) (at f0 f1 : ℕ) → Serves old (record new { quit = is_quit_end end }) → f1 ≡ f0 → HasStopped end new.rest new.rest at (RoseByOne f0 f1) → Breaks end old new at f0 f1
+pub breaks_here : (end : End) (old new : Stand) (at f0 f1 : ℕ) → Advances old (record new { quit = is_quit_end end }) → f1 ≡ f0 → HasStopped end new.rest new.rest at (RoseByOne f0 f1) → Breaks end old new at f0 f1
 breaks_here end old new at f0 f1 p quiet why = record {
   rest = new.rest;
   pending = new.pending;
@@ -168,41 +167,73 @@ breaks_here end old new at f0 f1 p quiet why = record {
   extra = 0;
   few = omega arith;
   exact = λ _. refl;
+  cut_off = λ some. absurd (some refl);
   asked = λ k. ap new.moment (sym (zero-add k));
   why = why;
   quiet = λ _. quiet;
 }
 
--- a fault of writing lost some of the pending answers
-pub breaks_fault : (old new : Stand) (lost kept : List ℕ) (held : Option (List ℕ)) (at f0 f1 : ℕ) → Serves old new → new.quit ≡ false → Writes new.pending lost new.held held → RoseByOne f0 f1
-    → Breaks ends.WriteFault old (record new { pending = kept; held = held }) at f0 f1
-breaks_fault old new lost kept held at f0 f1 p none w why = record {
-  rest = new.rest;
-  pending = lost;
-  moment = new.moment;
-  serves = subst (λ (q : Bool). Serves old (record new { pending = lost; held = held; quit = q })) none (serves_then old new _ p (serves_writes new lost held w));
-  kept = λ h. absurd (h refl);
-  extra = 0;
-  few = omega arith;
-  exact = λ _. refl;
-  asked = λ k. ap new.moment (sym (zero-add k));
-  why = why;
-  quiet = λ h. absurd (h refl);
+-- some of the pending answers were written, and nothing else changed
+pub advances_writes : (rest : List ℕ) (old new : Responder) (held now : Option (List ℕ)) (m : ℕ → Option ℕ) → KeepsAllButAnswers old new → Writes old.conn.out.bytes new.conn.out.bytes held now
+    → Advances (stand rest old held m false) (stand rest new now m false)
+advances_writes rest old new held now m k w = record {
+  served = [];
+  written = w.written;
+  cut = record { whole = refl; each = tt };
+  noted = ap (events_of 0) k.history ∙ sym (append-nil (events_of 0 old.history));
+  texts = sym w.parts ∙ sym (append-nil old.conn.out.bytes);
+  features = k.features;
+  quits = refl;
+  wrote = w.wrote;
+  moments = tt;
+  asked = λ n. ap m (sym (zero-add n));
 }
 
+-- a fault of writing lost some of the pending answers
+pub breaks_loss : (start : Stand) (rest : List ℕ) (old new : Responder) (held now : Option (List ℕ)) (m : ℕ → Option ℕ) (at f0 f1 : ℕ)
+    → Advances start (stand rest old held m false) → KeepsAllButAnswers old new → LosesSome old.conn.out.bytes held now → RoseByOne f0 f1
+    → Breaks ends.WriteFault start (stand rest new now m false) at f0 f1
+breaks_loss start rest old new held now m at f0 f1 p k loss why =
+    let here = stand rest old held m false in
+    let q = serves_then start here (record here { pending = loss.0; held = now }) p (serves_writes here loss.0 now loss.1) in
+    record {
+      rest = rest;
+      pending = loss.0;
+      moment = m;
+      serves = record {
+        served = q.served;
+        written = q.written;
+        cut = q.cut;
+        noted = ap (events_of 0) k.history ∙ q.noted;
+        texts = q.texts;
+        features = k.features ∙ q.features;
+        quits = q.quits;
+        wrote = q.wrote;
+        moments = q.moments;
+        asked = q.asked;
+      };
+      kept = λ h. absurd (h refl);
+      extra = 0;
+      few = omega arith;
+      exact = λ _. refl;
+      cut_off = λ some. absurd (some refl);
+      asked = λ n. ap m (sym (zero-add n));
+      why = why;
+      quiet = λ h. absurd (h refl);
+    }
+
 -- memory was wanting for the frame that was handed out, behind some answers that were written
-pub breaks_memory_at : (rest more : List ℕ) (old new : Front) (left : List ℕ) (held now : Option (List ℕ)) (m later : ℕ → Option ℕ) (at f0 f1 : ℕ) → f1 ≡ f0
+pub breaks_memory_at : (rest more : List ℕ) (old new : Responder) (left : List ℕ) (held now : Option (List ℕ)) (m later : ℕ → Option ℕ) (at f0 f1 : ℕ) → f1 ≡ f0 → BeginsWithFrame rest
     → Writes old.conn.out.bytes left held now → new.history ≡ old.history → new.conn.out.bytes ≡ left → new.conn.features ≡ old.conn.features → ((k : ℕ) → later k ≡ m (k + 1))
     → Breaks ends.NoMemory (stand rest old held m false) (stand more new now later false) at f0 f1
-breaks_memory_at rest more old new left held now m later at f0 f1 quiet w history same features asked = record {
+breaks_memory_at rest more old new left held now m later at f0 f1 quiet begins w history same features asked = record {
   rest = rest;
   pending = new.conn.out.bytes;
   moment = m;
   serves = record {
     served = [];
     written = w.written;
-    rest = refl;
-    each = tt;
+    cut = record { whole = refl; each = tt };
     noted = ap (events_of 0) history ∙ sym (append-nil (events_of 0 old.history));
     texts = ap (λ l. w.written ++ l) same ∙ sym w.parts ∙ sym (append-nil old.conn.out.bytes);
     features = features;
@@ -215,22 +246,23 @@ breaks_memory_at rest more old new left held now m later at f0 f1 quiet w histor
   extra = 1;
   few = omega arith;
   exact = λ h. absurd (h refl);
+  cut_off = λ _. begins;
   asked = λ k. asked k ∙ ap m (omega arith);
-  why = tt;
+  why = begins;
   quiet = λ _. quiet;
 }
 
 -- what a feeder holds begins no request, or says a body that is too long
-pub breaks_bad_magic : (held later : FeederData) (old new : Stand) (place f0 f1 : ℕ) → f1 ≡ f0 → Serves old new → new.quit ≡ false → new.rest ≡ later.rest → later ≡ held → HasBadMagic held.rest → place ≡ held.at
+pub breaks_bad_magic : (held later : FeederData) (old new : Stand) (place f0 f1 : ℕ) → f1 ≡ f0 → Advances old new → new.quit ≡ false → new.rest ≡ later.rest → later ≡ held → HasBadMagic held.rest → place ≡ held.at
     → Breaks (ends.BadMagic place) old new later.at f0 f1
 breaks_bad_magic held later old new place f0 f1 quiet p none rest same bad at =
-    breaks_here (ends.BadMagic place) old new later.at f0 f1 (subst (λ (q : Bool). Serves old (record new { quit = q })) none p) quiet
+    breaks_here (ends.BadMagic place) old new later.at f0 f1 (subst (λ (q : Bool). Advances old (record new { quit = q })) none p) quiet
     (subst (λ (l : List ℕ). HasBadMagic l) (sym (rest ∙ ap (λ (x : FeederData). x.rest) same)) bad, refl, at ∙ sym (ap (λ (x : FeederData). x.at) same))
 
-pub breaks_too_long : (held later : FeederData) (old new : Stand) (place f0 f1 : ℕ) → f1 ≡ f0 → Serves old new → new.quit ≡ false → new.rest ≡ later.rest → later ≡ held → IsTooLong held.rest → place ≡ held.at
+pub breaks_too_long : (held later : FeederData) (old new : Stand) (place f0 f1 : ℕ) → f1 ≡ f0 → Advances old new → new.quit ≡ false → new.rest ≡ later.rest → later ≡ held → IsTooLong held.rest → place ≡ held.at
     → Breaks (ends.TooLong place) old new later.at f0 f1
 breaks_too_long held later old new place f0 f1 quiet p none rest same bad at =
-    breaks_here (ends.TooLong place) old new later.at f0 f1 (subst (λ (q : Bool). Serves old (record new { quit = q })) none p) quiet
+    breaks_here (ends.TooLong place) old new later.at f0 f1 (subst (λ (q : Bool). Advances old (record new { quit = q })) none p) quiet
     (subst (λ (l : List ℕ). IsTooLong l) (sym (rest ∙ ap (λ (x : FeederData). x.rest) same)) bad, refl, at ∙ sym (ap (λ (x : FeederData). x.at) same))
 
 -- a count that rose by one after it stood rose by one
@@ -249,7 +281,7 @@ still_stopped ends.WriteFault rest kept at rose later f h = f h
 still_stopped ends.Quit rest kept at rose later f h = h
 still_stopped ends.Closed rest kept at rose later f h = h
 
-pub breaks_then : (end : End) (a b c : Stand) (at f0 f1 f2 : ℕ) → Serves a b → f1 ≡ f0 → Breaks end b c at f1 f2 → Breaks end a c at f0 f2
+pub breaks_then : (end : End) (a b c : Stand) (at f0 f1 f2 : ℕ) → Advances a b → f1 ≡ f0 → Breaks end b c at f1 f2 → Breaks end a c at f0 f2
 breaks_then end a b c at f0 f1 f2 p before q = record {
   rest = q.rest;
   pending = q.pending;
@@ -259,6 +291,7 @@ breaks_then end a b c at f0 f1 f2 p before q = record {
   extra = q.extra;
   few = q.few;
   exact = q.exact;
+  cut_off = q.cut_off;
   asked = q.asked;
   why = still_stopped end q.rest c.rest at (RoseByOne f1 f2) (RoseByOne f0 f2) (rose_from f0 f1 f2 before) q.why;
   quiet = λ able. q.quiet able ∙ before;
@@ -283,22 +316,21 @@ place_first held later n frame f is e =
     omega (arith, length-drop (frame_length held.rest) held.rest)
 
 -- the frame that a feeder handed out was answered
-pub serves_first : (held later : FeederData) (n : Next) (frame : Frame) (old new : Front) (sink : Option (List ℕ)) (m next : ℕ → Option ℕ) (quit wanted : Bool)
+pub serves_first : (held later : FeederData) (n : Next) (frame : Frame) (old new : Responder) (sink : Option (List ℕ)) (m next : ℕ → Option ℕ) (quit wanted : Bool)
     → IsFrame (first_frame held.rest) → frame_data frame ≡ frame_at (first_frame held.rest) held.at → n ≡ nexts.Frame frame → later ≡ after_next held n
-    → Answered (frame_data frame) m next quit old new → quit ≡ wanted → Serves (stand held.rest old sink m false) (stand later.rest new sink next wanted)
+    → Responds (frame_data frame) m next quit old new → quit ≡ wanted → Advances (stand held.rest old sink m false) (stand later.rest new sink next wanted)
 serves_first held later n frame old new sink m next quit wanted f same is e a q =
     serves_answer (first_frame held.rest) held.rest later.rest held.at old new sink m next wanted f (split_first held later n frame is e)
-    (subst (λ (x : FrameData). Answered x m next wanted old new) same (subst (λ (b : Bool). Answered (frame_data frame) m next b old new) q a))
+    (subst (λ (x : FrameData). Responds x m next wanted old new) same (subst (λ (b : Bool). Responds (frame_data frame) m next b old new) q a))
 
 -- A feeder that hands out no frame holds what it held, and nothing was served but that some answers were written.
-pub serves_none : (held later : FeederData) (n : Next) (old new : Front) (sink now : Option (List ℕ)) (m : ℕ → Option ℕ)
+pub serves_none : (held later : FeederData) (n : Next) (old new : Responder) (sink now : Option (List ℕ)) (m : ℕ → Option ℕ)
     → later ≡ after_next held n → after_next held n ≡ held → new.history ≡ old.history → new.conn.features ≡ old.conn.features → Writes old.conn.out.bytes new.conn.out.bytes sink now
-    → Serves (stand held.rest old sink m false) (stand later.rest new now m false)
+    → Advances (stand held.rest old sink m false) (stand later.rest new now m false)
 serves_none held later n old new sink now m e same history features w = record {
   served = [];
   written = w.written;
-  rest = sym (ap (λ (x : FeederData). x.rest) (e ∙ same));
-  each = tt;
+  cut = record { whole = sym (ap (λ (x : FeederData). x.rest) (e ∙ same)); each = tt };
   noted = ap (events_of 0) history ∙ sym (append-nil (events_of 0 old.history));
   texts = sym w.parts ∙ sym (append-nil old.conn.out.bytes);
   features = features;

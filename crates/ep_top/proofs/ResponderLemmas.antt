@@ -1,4 +1,4 @@
--- A front goes on by one event, and by one answer.
+-- A responder goes on by one event, and by one answer.
 use Rattle.std.proofs.Common.{◌≡◌, ℕ, ◌+◌, Bool, true, false, List, [], ◌∷◌, ◌++◌, length, refl, sym, ap, ◌∙◌, subst, Option, IfSome, append_assoc, add-zero}
 use Rattle.std.proofs.lemmas.List.{append-nil}
 use Rattle.std.specs.Prelude.{Some, Result, Ok, Err, OnErr}
@@ -22,14 +22,15 @@ use Rattle.conn_core.specs.declared.act.ActData.{ActData}
 use Rattle.conn_core.specs.declared.act.ActData.TheVariants as acts
 use Rattle.conn_core.specs.declared.conn.Conn.{Conn}
 use Rattle.conn_core.specs.declared.hello.Features.{Features}
-use Rattle.conn_core.specs.Conns.{IsNew, out_room, value_room}
+use Rattle.ep_model.specs.Limits.{value_room}
+use Rattle.conn_core.specs.Conns.{IsNew, out_room}
 use Rattle.conn_core.specs.Acts.{own_text, features_after}
 use Rattle.conn_core.proofs.ActLemmas.{engine_features}
-use Rattle.ep_top.specs.declared.front.Front.{Front}
-use Rattle.ep_top.specs.Calls.{Calls}
+use Rattle.ep_top.specs.declared.responder.Responder.{Responder}
+use Rattle.ep_top.specs.AnswersCall.{AnswersCall}
 use Rattle.conn_core.specs.Exchange.{act_event, act_text, is_quit}
 use Rattle.ep_top.specs.Exchange.{vbuckets, act_in}
-use Rattle.ep_top.specs.Front.{session_config, session_front, IsLegalHistory, IsSound, Answered}
+use Rattle.ep_top.specs.Responder.{session_config, session_front, IsLegalHistory, IsSound, Responds}
 
 -- a session's documents are known
 is_told : (events : List EventData) → (world_of (session_front events)).told ≡ true
@@ -75,10 +76,10 @@ opened-apply w Nothing = refl
 opened-apply w (Puts key doc) = refl
 opened-apply w (Sets state) = refl
 
--- the front stays sound behind a call
-pub sound_after_call : (old new : Front) (sorted : Conn) (frame : FrameData) (call : CallData) (now : ℕ) → IsSound old
+-- the responder stays sound behind a call
+pub sound_after_call : (old new : Responder) (sorted : Conn) (frame : FrameData) (call : CallData) (now : ℕ) → IsSound old
     → sorted.out.spare + length sorted.out.bytes ≡ old.conn.out.spare + length old.conn.out.bytes → sorted.value ≡ old.conn.value
-    → Calls frame call now old.plain new.plain old.history new.history sorted new.conn → IsSound new
+    → AnswersCall frame call now old.plain new.plain old.history new.history sorted new.conn → IsSound new
 sound_after_call old new sorted frame call now s room value c = record {
   world =
       c.world ∙ world_after_call old.plain (events_of 0 old.history) 0 now call c.reply c.value s.world
@@ -91,10 +92,10 @@ sound_after_call old new sorted frame call now s room value c = record {
 }
 
 -- a call was answered
-pub answered_call : (f : FrameData) (m next : ℕ → Option ℕ) (old new : Front) (sorted : Conn) (call : CallData) (now : ℕ)
+pub answered_call : (f : FrameData) (m next : ℕ → Option ℕ) (old new : Responder) (sorted : Conn) (call : CallData) (now : ℕ)
     → IfSome (m 0) (λ t. now ≡ t) → ((k : ℕ) → next k ≡ m (1 + k)) → acts.Engine call ≡ act_in f
     → sorted.out.bytes ≡ old.conn.out.bytes ++ own_text vbuckets f → sorted.features ≡ features_after old.conn.features f
-    → Calls f call now old.plain new.plain old.history new.history sorted new.conn → Answered f m next false old new
+    → AnswersCall f call now old.plain new.plain old.history new.history sorted new.conn → Responds f m next false old new
 answered_call f m next old new sorted call now told asked act text features c = record {
   now = now;
   reply = c.reply;
@@ -118,11 +119,11 @@ no_reply : Reply
 no_reply = record { status = 0; cas = 0; flags = 0; uuid = 0; seqno = 0 }
 
 -- a frame was answered that is no call: nothing was noted, and behind the connection's own answer stands `text`
-pub answered_frame : (f : FrameData) (m next : ℕ → Option ℕ) (old new : Front) (sorted : Conn) (act : ActData) (text : List ℕ) (quit : Bool) (now : ℕ)
+pub answered_frame : (f : FrameData) (m next : ℕ → Option ℕ) (old new : Responder) (sorted : Conn) (act : ActData) (text : List ℕ) (quit : Bool) (now : ℕ)
     → IfSome (m 0) (λ t. now ≡ t) → ((k : ℕ) → next k ≡ m (1 + k)) → act ≡ act_in f
     → ((reply : Reply) → act_event act now reply [] ≡ []) → ((reply : Reply) → act_text old.conn.features f act reply [] ≡ text) → is_quit act ≡ quit
     → sorted.out.bytes ≡ old.conn.out.bytes ++ own_text vbuckets f → sorted.features ≡ features_after old.conn.features f
-    → new.history ≡ old.history → new.conn.out.bytes ≡ sorted.out.bytes ++ text → new.conn.features ≡ sorted.features → Answered f m next quit old new
+    → new.history ≡ old.history → new.conn.out.bytes ≡ sorted.out.bytes ++ text → new.conn.features ≡ sorted.features → Responds f m next quit old new
 answered_frame f m next old new sorted act text quit now told asked is event shown quits own features history bytes kept = record {
   now = now;
   reply = no_reply;
@@ -142,8 +143,8 @@ answered_frame f m next old new sorted act text quit now told asked is event sho
 empty_room : (o : OutData) → o.bytes ≡ [] → o.spare + length o.bytes ≡ o.spare
 empty_room o none = ap (λ (l : List ℕ). o.spare + length l) none ∙ add-zero o.spare
 
--- a front that has opened and did nothing else
-pub sound_fresh : (f : Front) → f.history ≡ [] ++ (0, Opened) ∷ [] → f.plain ≡ record (begun (session_front [])) { opened = true }
+-- a responder that has opened and did nothing else
+pub sound_fresh : (f : Responder) → f.history ≡ [] ++ (0, Opened) ∷ [] → f.plain ≡ record (begun (session_front [])) { opened = true }
     → IsNew f.conn → f.conn.out.spare ≡ out_room → f.conn.value.spare ≡ value_room → IsSound f
 unfolding May
 sound_fresh f noted plain new out value = record {
