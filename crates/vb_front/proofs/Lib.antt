@@ -1,0 +1,16 @@
+pub mod CalmLemmas
+pub mod AskLemmas
+pub mod WaitLemmas
+pub mod PinLemmas
+pub mod TicketLemmas
+pub mod NodeLemmas
+pub mod ReadLemmas
+pub mod ExactLemmas
+pub mod ControlLemmas
+pub mod DeskLemmas
+pub mod EmptyLemmas
+pub mod ShowLemmas
+pub mod PutLemmas
+pub mod QueueLemmas
+pub mod KeptLemmas
+pub mod EntryLemmas

@@ -1,0 +1,168 @@
+-- What an event elsewhere leaves of a stripe's documents, of who waits for them, and of the queue.
+use Rattle.std.proofs.Common.{◌≡◌, ℕ, true, false, List, [], ◌∷◌, ◌++◌, refl, sym, ap, subst, ◌∙◌}
+use Rattle.std.specs.Prelude.{None, ◌==◌, ◌||◌, ◌&&◌, not, nat_lt}
+use Rattle.std.specs.Str.{bytes_eq}
+use Rattle.std.proofs.lemmas.Slice.Eq.{bytes_eq-Decides}
+use Rattle.ep_model.specs.declared.event.Cause.{Cause}
+use Rattle.ep_model.specs.declared.event.PartName.TheVariants.{Stripe, Queue, Desk}
+use Rattle.ep_model.specs.declared.event.Ticket.{Ticket}
+use Rattle.ep_model.specs.declared.config.Config.{Config}
+use Rattle.ep_model.specs.declared.data.CallData.{CallData}
+use Rattle.ep_model.specs.declared.data.EventData.{EventData}
+use Rattle.ep_model.specs.declared.data.EventData.TheVariants.{Called, Refused, Expired, Persisted, Marked, Asked, ReadFailed, Opened}
+use Rattle.ep_model.specs.declared.data.FrontData.{FrontData}
+use Rattle.ep_model.specs.World.{World}
+use Rattle.ep_model.specs.Stripes.{stripe_of}
+use Rattle.ep_model.specs.Answer.{Effect, Nothing, Puts, Sets}
+use Rattle.ep_model.specs.History.{call_effect, step}
+use Rattle.ep_model.specs.Front.{begun, world_of, with_event}
+use Rattle.ep_model.specs.Mutations.{put_by, mutation_of}
+use Rattle.ep_model.specs.Legal.{IsUnused, HasFailedRead, Caused, May, IsLegal}
+use Rattle.ep_model.specs.Checkpoints.{Checkpoints, first_checkpoints, queued_if, cut_after, cut}
+use Rattle.hold_stage.specs.Touches.{touches_call, touches}
+use Rattle.hold_stage.specs.Waits.{puts_on, is_ask, is_waiting, IsNoRead}
+use Rattle.ep_model.proofs.EffectLemmas.{IsDone, call_done}
+use Rattle.hold_stage.proofs.Views.{SameStripe, SameQueue, step_stripe, step_queue, no_mutation, written_touches, touches_keyed, not_same, or_left, or_true_right}
+use Rattle.hold_stage.proofs.Later.{world_step, persisted_apply}
+use Rattle.hold_stage.proofs.Legality.{has_more}
+use Rattle.hold_stage.proofs.Bounds.{asked_may, waiting_step}
+use Rattle.hold_stage.proofs.QuotaLemmas.{cut_append}
+
+-- a key of this stripe isn't one of a stripe that isn't touched
+other_key : (config : Config) (stripe : ℕ) (key other : List ℕ) → stripe_of key config.stripes ≡ stripe
+    → (stripe == stripe_of other config.stripes) ≡ false → bytes_eq other key ≡ false
+other_key config stripe key other here apart =
+    elim (bytes_eq other key) as (λ b. bytes_eq other key ≡ b → b ≡ false) [
+      | true ↦ λ is. absurd (not_same stripe (stripe_of other config.stripes) apart (sym (ap (λ (l : List ℕ). stripe_of l config.stripes) ((bytes_eq-Decides other key).0 is) ∙ here)))
+      | false ↦ λ is. refl
+    ] refl
+
+puts_apart : (config : Config) (stripe : ℕ) (w : World) (call : CallData) (now : ℕ) (key : List ℕ) (effect : Effect)
+    → stripe_of key config.stripes ≡ stripe → touches_call config call (Stripe stripe) ≡ false
+    → IsDone w call now effect → puts_on key (put_by effect) ≡ false
+puts_apart config stripe w call now key Nothing here apart done = refl
+puts_apart config stripe w call now key (Puts k doc) here apart done =
+    other_key config stripe key k here (or_left _ _ (sym (written_touches config call k (Stripe stripe) done.0) ∙ apart))
+puts_apart config stripe w call now key (Sets state) here apart done = refl
+
+-- an event that doesn't touch the stripe of a key doesn't change its document
+pub put_apart : (f : FrontData) (stripe : ℕ) (w : World) (event : EventData) (key : List ℕ)
+    → stripe_of key f.config.stripes ≡ stripe → touches f event (Stripe stripe) ≡ false
+    → puts_on key (mutation_of w event) ≡ false
+unfolding touches
+put_apart f stripe w (Called caller call now reply value) key here apart = puts_apart f.config stripe w call now key (call_effect w call now reply) here apart (call_done w call now reply)
+put_apart f stripe w (Refused caller call now cause) key here apart = refl
+put_apart f stripe w (Expired other now) key here apart = other_key f.config stripe key other here (or_left _ _ apart)
+put_apart f stripe w (Persisted number) key here apart = refl
+put_apart f stripe w (Marked other number) key here apart = refl
+put_apart f stripe w (Asked ticket caller call) key here apart = refl
+put_apart f stripe w (ReadFailed ticket fault) key here apart = refl
+put_apart f stripe w Opened key here apart = refl
+
+-- a call that asked at a ticket touches the ticket's stripe
+pub asked_touches : (f : FrontData) (ticket : Ticket) (caller : ℕ) (call : CallData) (before later : List EventData)
+    → IsLegal f → f.events ≡ before ++ Asked ticket caller call ∷ later
+    → touches_call f.config call (Stripe ticket.stripe) ≡ true
+asked_touches f ticket caller call before later legal is =
+    let m = asked_may f ticket caller call before later legal is in
+    subst (λ n. touches_call f.config call (Stripe n) ≡ true) (sym m.here) (touches_keyed f.config call m.key m.keyed)
+
+-- so an event elsewhere refuses no call for what became of it, and tells of no failed read for it
+pub unused_apart : (f : FrontData) (ticket : Ticket) (event : EventData) → IsLegal f → May f event
+    → touches f event (Stripe ticket.stripe) ≡ false → IsUnused ticket event
+unfolding May touches
+unused_apart f ticket (Called caller call now reply value) legal may apart = tt
+unused_apart f ticket (Refused caller call now cause) legal may apart = (
+  λ is.
+      let c = subst (λ (k : Cause). Caused f caller call now k) is may in
+      let t = asked_touches f ticket caller call c.waits.before c.waits.later legal c.waits.asked in cc,
+  λ is.
+      let c = subst (λ (k : Cause). Caused f caller call now k) is may in
+      let t = asked_touches f ticket caller call c.waits.before c.waits.later legal c.waits.asked in cc,
+)
+unused_apart f ticket (Expired key now) legal may apart = tt
+unused_apart f ticket (Persisted number) legal may apart = tt
+unused_apart f ticket (Marked stripe number) legal may apart = tt
+unused_apart f ticket (Asked other caller call) legal may apart = tt
+unused_apart f ticket (ReadFailed other fault) legal may apart = tt
+unused_apart f ticket Opened legal may apart = tt
+
+pub no_read_apart : (f : FrontData) (ticket : Ticket) (event : EventData)
+    → touches f event (Stripe ticket.stripe) ≡ false → IsNoRead ticket event
+unfolding touches
+no_read_apart f ticket (Called caller call now reply value) apart = tt
+no_read_apart f ticket (Refused caller call now cause) apart = tt
+no_read_apart f ticket (Expired key now) apart = tt
+no_read_apart f ticket (Persisted number) apart = tt
+no_read_apart f ticket (Marked stripe number) apart = tt
+no_read_apart f ticket (Asked other caller call) apart = tt
+no_read_apart f ticket (ReadFailed other fault) apart = λ is. not_same ticket.stripe other.stripe (or_left _ _ apart) (ap (λ (t : Ticket). t.stripe) (sym is))
+no_read_apart f ticket Opened apart = tt
+
+-- a failed read stays one
+pub failed_later : (f : FrontData) (ticket : Ticket) (fault : ℕ) (event : EventData) → HasFailedRead f.events ticket fault
+    → HasFailedRead (with_event f event).events ticket fault
+failed_later f ticket fault event h = record { before = h.before; later = h.later ++ event ∷ []; failed = has_more f.events h.before h.later (ReadFailed ticket fault) event h.failed }
+
+-- who waits for a document goes on waiting while that isn't put
+pub waiting_later : (f : FrontData) (ticket : Ticket) (key : List ℕ) (event : EventData)
+    → puts_on key (mutation_of (world_of f) event) ≡ false → is_waiting f ticket key ≡ true
+    → is_waiting (with_event f event) ticket key ≡ true
+waiting_later f ticket key event apart waits =
+    waiting_step f ticket key event
+    ∙ ap (λ b. is_ask ticket key event || (b && not (puts_on key (mutation_of (world_of f) event)))) waits
+    ∙ ap (λ b. is_ask ticket key event || not b) apart
+    ∙ or_true_right (is_ask ticket key event) true refl
+
+-- what there is of a stripe and of the queue
+pub world_stripe : (f : FrontData) (stripe : ℕ) (event : EventData) → nat_lt stripe f.config.stripes ≡ true
+    → touches f event (Stripe stripe) ≡ false
+    → SameStripe f.config.stripes stripe (world_of f) (world_of (with_event f event))
+world_stripe f stripe event there apart = subst (λ (w : World). SameStripe f.config.stripes stripe (world_of f) w) (sym (world_step f event)) (step_stripe f stripe (world_of f) event there apart)
+
+pub world_queue : (f : FrontData) (event : EventData) → touches f event Queue ≡ false
+    → SameQueue (world_of f) (world_of (with_event f event))
+world_queue f event apart = subst (λ (w : World). SameQueue (world_of f) w) (sym (world_step f event)) (step_queue f (world_of f) event apart)
+
+-- the checkpoints with one event more
+pub cut_step : (f : FrontData) (event : EventData)
+    → cut (with_event f event) ≡ cut_after f.config.ckpt_max (world_of f) (cut f) event
+unfolding cut
+cut_step f event = cut_append f.config.ckpt_max (begun f) first_checkpoints f.events (event ∷ [])
+
+queued_none : (most : ℕ) (c : Checkpoints) (w : World) (event : EventData) → mutation_of w event ≡ None
+    → queued_if most (mutation_of w event) c ≡ c
+queued_none most c w event is = subst (λ item. queued_if most item c ≡ c) (sym is) refl
+
+cut_apart : (f : FrontData) (most : ℕ) (w : World) (c : Checkpoints) (event : EventData) → touches f event Queue ≡ false
+    → cut_after most w c event ≡ c
+unfolding touches
+cut_apart f most w c (Called caller call now reply value) apart = queued_none most c w (Called caller call now reply value) (no_mutation f w (Called caller call now reply value) apart)
+cut_apart f most w c (Refused caller call now cause) apart = refl
+cut_apart f most w c (Expired key now) apart = absurd (cc)
+cut_apart f most w c (Persisted number) apart = absurd (cc)
+cut_apart f most w c (Marked stripe number) apart = refl
+cut_apart f most w c (Asked ticket caller call) apart = refl
+cut_apart f most w c (ReadFailed ticket fault) apart = refl
+cut_apart f most w c Opened apart = refl
+
+-- are left by an event that doesn't touch the queue
+pub same_cut : (f : FrontData) (event : EventData) → touches f event Queue ≡ false → cut (with_event f event) ≡ cut f
+same_cut f event apart = cut_step f event ∙ cut_apart f f.config.ckpt_max (world_of f) (cut f) event apart
+
+step_desk : (f : FrontData) (w : World) (event : EventData) → touches f event Desk ≡ false
+    → (step w event).persisted ≡ w.persisted
+unfolding touches
+step_desk f w (Called caller call now reply value) apart = persisted_apply w (call_effect w call now reply)
+step_desk f w (Refused caller call now cause) apart = refl
+step_desk f w (Expired key now) apart = refl
+step_desk f w (Persisted number) apart = absurd (cc)
+step_desk f w (Marked stripe number) apart = refl
+step_desk f w (Asked ticket caller call) apart = refl
+step_desk f w (ReadFailed ticket fault) apart = refl
+step_desk f w Opened apart = refl
+
+-- what is persisted
+pub world_desk : (f : FrontData) (event : EventData) → touches f event Desk ≡ false
+    → (world_of (with_event f event)).persisted ≡ (world_of f).persisted
+world_desk f event apart = ap (λ (w : World). w.persisted) (world_step f event) ∙ step_desk f (world_of f) event apart

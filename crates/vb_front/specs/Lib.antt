@@ -1,0 +1,11 @@
+pub mod Stands
+pub mod Apart
+pub mod Keeps
+pub mod Parts
+pub mod Priors
+pub mod Waits
+pub mod Reads
+pub mod Controls
+pub mod Desks
+pub mod Laws
+pub mod Queues

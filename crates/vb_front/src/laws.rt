@@ -1,0 +1,24 @@
+//! What is true of all parts, desks and batches that stand for a history. Each function does nothing: its contract is the
+//! law.
+ghost use Rattle.vb_front.specs.Laws.{EmptyStripesStand, EmptyQueuesStand, DesksStandOn, BatchesStandOn, PriorsStandOn};
+ghost use Rattle.vb_front.specs.Laws.{BatchesStandAbove, DesksStore, DesksFail};
+
+/// Parts that have nothing stand for a history in which nothing happened, before a start is put and behind any start.
+pub fn empty_parts_stand()
+    ensures stripes { EmptyStripesStand }
+    ensures queues { EmptyQueuesStand }
+{}
+
+/// A desk, a batch between its taking and its commit, and a call that asked stand on while others note events.
+pub fn others_leave_desks_and_callers()
+    ensures desks { DesksStandOn }
+    ensures batches { BatchesStandOn }
+    ensures priors { PriorsStandOn }
+{}
+
+/// A desk stands behind the events that it notes itself, and so does a batch of which not all is told to be stored.
+pub fn desks_stand_behind_their_events()
+    ensures stores { DesksStore }
+    ensures fails { DesksFail }
+    ensures batches { BatchesStandAbove }
+{}

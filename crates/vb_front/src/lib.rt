@@ -1,0 +1,18 @@
+//! Calls on the parts of a vBucket: what each part is to a history, and what a call on held parts answers and leaves.
+#![tactic(auto)]
+
+mod controls;
+mod get;
+pub mod laws;
+mod part;
+pub mod queue_laws;
+mod step;
+mod wait;
+
+pub use controls::control;
+pub use get::read;
+pub use part::{DeskPart, Part, StripePart};
+pub use step::Step;
+
+#[cfg(test)]
+mod tests;
