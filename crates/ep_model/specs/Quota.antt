@@ -46,15 +46,23 @@ abbrev pub standing_blocks : List ℕ → Option Doc → ℕ
 standing_blocks key None = 0
 standing_blocks key (Some doc) = if doc.deleted then 0 else doc_blocks key doc
 
+-- the blocks of the old document, for a call that needs it
+abbrev pub old_blocks : World → List ℕ → CallData → ℕ
+old_blocks w key call = if needs w.eviction call then standing_blocks key (finmap.get w.docs key) else 0
+
 -- the blocks of the document that a call needs in memory, the new one or the old
 abbrev pub need : World → List ℕ → CallData → ℕ → ℕ
-need w key call now = max (blocks_if (put_by (answer w call now).effect)) (if needs w.eviction call then standing_blocks key (finmap.get w.docs key) else 0)
+need w key call now = max (blocks_if (put_by (answer w call now).effect)) (old_blocks w key call)
+
+-- So many blocks more don't fit beside those that can't leave memory. A call that needs none is never refused for it.
+abbrev pub exceeds : ℕ → ℕ → ℕ → Bool
+exceeds blocks taken more = not (more == 0) && nat_lt blocks (taken + more)
 
 -- whether a stripe has no room for what a call on a key needs
 abbrev pub is_full : FrontData → List ℕ → CallData → ℕ → Bool
 is_full f key call now =
     let stripe = stripe_of key f.config.stripes in
-    nat_lt f.config.blocks (pinned (world_of f) stripe (marked f stripe) key + need (world_of f) key call now)
+    exceeds f.config.blocks (pinned (world_of f) stripe (marked f stripe) key) (need (world_of f) key call now)
 
 -- whether the checkpoints have no room for the document that a call puts
 abbrev pub is_overfull : FrontData → Option Item → Bool

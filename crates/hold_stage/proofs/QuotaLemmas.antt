@@ -25,7 +25,7 @@ use Rattle.ep_model.specs.Mutations.{put_by, mutation_of}
 use Rattle.ep_model.specs.Needs.{needs}
 use Rattle.ep_model.specs.Front.{begun, world_of, with_event, with_events, marked}
 use Rattle.ep_model.specs.Checkpoints.{Checkpoints, first_checkpoints, queued, queued_if, cut_after, cut_in, cut, items_above, item_blocks}
-use Rattle.ep_model.specs.Quota.{is_other, others_in, pinned_sum, pinned, blocks_if, standing_blocks, need, is_full, is_overfull, is_short}
+use Rattle.ep_model.specs.Quota.{is_other, others_in, pinned_sum, pinned, blocks_if, standing_blocks, old_blocks, need, exceeds, is_full, is_overfull, is_short}
 use Rattle.ep_model.proofs.EffectLemmas.{IsDone, answer_done}
 use Rattle.hold_stage.specs.Touches.{holds_key, is_queue, touches_call, touches}
 use Rattle.hold_stage.specs.Grows.{Quiet}
@@ -68,12 +68,15 @@ same_pinned stripes stripe mark key v w layout same frame =
 pub layout_of : (f : FrontData) → (world_of f).stripes ≡ f.config.stripes
 layout_of f = (frame_after (begun f) f.events).stripes
 
--- what a call needs
+-- what a call needs, by its answer and the old document's blocks
+abbrev need_of : Answer → ℕ → ℕ
+need_of a old = max (blocks_if (put_by a.effect)) old
+
 pub same_need : (v w : World) (key : List ℕ) (call : CallData) (now : ℕ) → answer w call now ≡ answer v call now → get w.docs key ≡ get v.docs key → SameFrame v w → need w key call now ≡ need v key call now
 same_need v w key call now same docs frame =
-    ap (λ (a : Answer). max (blocks_if (put_by a.effect)) (cond (needs w.eviction call) (standing_blocks key (get w.docs key)) 0)) same
-    ∙ ap (λ (e : Eviction). max (blocks_if (put_by (answer v call now).effect)) (cond (needs e call) (standing_blocks key (get w.docs key)) 0)) frame.eviction
-    ∙ ap (λ (o : Option Doc). max (blocks_if (put_by (answer v call now).effect)) (cond (needs v.eviction call) (standing_blocks key o) 0)) docs
+    ap (λ (a : Answer). need_of a (old_blocks w key call)) same
+    ∙ ap (λ (e : Eviction). need_of (answer v call now) (cond (needs e call) (standing_blocks key (get w.docs key)) 0)) frame.eviction
+    ∙ ap (λ (o : Option Doc). need_of (answer v call now) (cond (needs v.eviction call) (standing_blocks key o) 0)) docs
 
 -- Checkpoints: of two parts of a history, and what an event leaves that doesn't touch the queue.
 pub cut_append : (most : ℕ) (w : World) (c : Checkpoints) (xs ys : List EventData) → cut_in most w c (xs ++ ys) ≡ cut_in most (after w xs) (cut_in most w c xs) ys
@@ -136,6 +139,6 @@ module _ (f : FrontData) (held : PartName → Bool) (caller : ℕ) (desk : Bool)
       let effect = (answer (world_of f) call now).effect in
       ap (λ (a : Answer). is_full (with_events f more) key call now || is_overfull (with_events f more) (put_by a.effect)) given
       ∙ ap (λ b. is_full (with_events f more) key call now || b) (overfull_at (put_by effect) (λ some. covers Queue (puts_touch f.config (world_of f) call now effect (answer_done (world_of f) call now) some)))
-      ∙ ap (λ n. nat_lt f.config.blocks (pinned (world_of (with_events f more)) stripe n key + need (world_of (with_events f more)) key call now) || is_overfull f (put_by effect)) mark
-      ∙ ap (λ n. nat_lt f.config.blocks (n + need (world_of (with_events f more)) key call now) || is_overfull f (put_by effect)) pins
-      ∙ ap (λ n. nat_lt f.config.blocks (pinned (world_of f) stripe (marked f stripe) key + n) || is_overfull f (put_by effect)) needed
+      ∙ ap (λ n. exceeds f.config.blocks (pinned (world_of (with_events f more)) stripe n key) (need (world_of (with_events f more)) key call now) || is_overfull f (put_by effect)) mark
+      ∙ ap (λ n. exceeds f.config.blocks n (need (world_of (with_events f more)) key call now) || is_overfull f (put_by effect)) pins
+      ∙ ap (λ n. exceeds f.config.blocks (pinned (world_of f) stripe (marked f stripe) key) n || is_overfull f (put_by effect)) needed

@@ -14,7 +14,7 @@ use Rattle.ep_model.specs.Answer.{answer}
 use Rattle.ep_model.specs.Mutations.{put_by}
 use Rattle.ep_model.specs.Front.{world_of, with_event, marked}
 use Rattle.ep_model.specs.Checkpoints.{Checkpoints, queued, cut, cut_after, items_above, item_blocks}
-use Rattle.ep_model.specs.Quota.{pinned, need, is_short}
+use Rattle.ep_model.specs.Quota.{pinned, need, exceeds, is_short}
 use Rattle.plain_tally.specs.declared.item.PlainItem.{PlainItem}
 use Rattle.plain_tally.specs.Items.{item_data, items_data}
 
@@ -40,7 +40,7 @@ doc_data item = (item_data item).1
 
 -- the stripe has no room for what a call needs, where it knows what is stored up to a mark
 abbrev pub is_full_at : ℕ → World → ℕ → List ℕ → CallData → ℕ → Bool
-is_full_at blocks w mark key call now = nat_lt blocks (pinned w (stripe_of key w.stripes) mark key + need w key call now)
+is_full_at blocks w mark key call now = exceeds blocks (pinned w (stripe_of key w.stripes) mark key) (need w key call now)
 
 -- nor have the checkpoints for what it puts
 abbrev pub is_overfull_at : ℕ → ℕ → ℕ → Checkpoints → Option Item → Bool

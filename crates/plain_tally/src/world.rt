@@ -109,7 +109,7 @@ impl PlainWorld {
     ghost use Rattle.ep_model.specs.Stripes.{stripe_of};
     ghost use Rattle.ep_model.specs.Answer.{answer};
     ghost use Rattle.ep_model.specs.Mutations.{put_by};
-    ghost use Rattle.ep_model.specs.Quota.{pinned, need};
+    ghost use Rattle.ep_model.specs.Quota.{pinned, need, old_blocks};
     ghost use Rattle.plain_tally.specs.Items.{item_data};
     ghost use Rattle.plain_tally.specs.Rooms.{doc_data, open_world, is_full_at, is_short_at};
 
@@ -172,10 +172,18 @@ impl PlainWorld {
         requires puts { option_map item_data (option_copied puts) ≡ put_by (answer self.now (call_data call.now) now).effect }
         ensures { result ≡ need self.now key.now (call_data call.now) now }
     {
+        blocks_of(puts).max(self.old_blocks(key, call))
+    }
+
+    // The blocks of the old document, for a call that needs it.
+    fn old_blocks(&self, key: &[u8], call: &Call) -> u64
+        requires { IsKey key.now }
+        ensures { result ≡ old_blocks self.now key.now (call_data call.now) }
+    {
         if needs(self.eviction, call) {
-            blocks_of(puts).max(standing_blocks(key, self.get(key)))
+            standing_blocks(key, self.get(key))
         } else {
-            blocks_of(puts)
+            0
         }
     }
 
@@ -229,10 +237,8 @@ impl PlainWorld {
         requires puts { option_map item_data (option_copied puts) ≡ put_by (answer self.now (call_data call.now) now).effect }
         ensures { result ≡ is_full_at blocks self.now mark key.now (call_data call.now) now }
     {
-        let taken = self
-            .pinned(mark, key)
-            .saturating_add(self.need(key, call, now, puts));
-        taken > u64::from(blocks)
+        let need = self.need(key, call, now, puts);
+        need != 0 && self.pinned(mark, key).saturating_add(need) > u64::from(blocks)
     }
 
     /// Puts a document in place of the key's. Its numbers are now the greatest.

@@ -1,5 +1,5 @@
 -- A Get on a stripe that stands: its event is legal, and the stripe stands behind it.
-use Rattle.std.proofs.Common.{◌≡◌, ℕ, ◌+◌, true, false, cond, List, ◌∷◌, ◌++◌, refl, sym, ap, subst, ◌∙◌, arith}
+use Rattle.std.proofs.Common.{◌≡◌, ℕ, ◌≤◌, ◌+◌, true, false, cond, List, ◌∷◌, ◌++◌, length, refl, sym, ap, subst, ◌∙◌, arith}
 use Rattle.std.specs.Prelude.{Option, Some, None, nat_lt, not, ◌==◌, ◌&&◌, ◌||◌}
 use Rattle.std.specs.FinMap.{get}
 use Rattle.std.proofs.lemmas.Bool.Decides.{nat_tests}
@@ -12,6 +12,8 @@ use Rattle.ep_model.specs.declared.data.CallData.TheVariants.{Get}
 use Rattle.ep_model.specs.declared.data.EventData.TheVariants.{Asked}
 use Rattle.ep_model.specs.declared.data.FrontData.{FrontData}
 use Rattle.ep_model.specs.World.{Doc, World, live_of, secs, doc_blocks}
+use Rattle.ep_model.specs.World.{blocks as blocks_for}
+use Rattle.ep_model.specs.Limits.{IsKey}
 use Rattle.ep_model.specs.Stripes.{stripe_of}
 use Rattle.ep_model.specs.Calls.{key_of}
 use Rattle.ep_model.specs.Needs.{needs}
@@ -19,7 +21,7 @@ use Rattle.ep_model.specs.Refusals.{state_refusal}
 use Rattle.ep_model.specs.Answer.{Answer, unless, refused, answer_get, answer_row, answer}
 use Rattle.ep_model.specs.Mutations.{put_by}
 use Rattle.ep_model.specs.Front.{begun, world_of, marked}
-use Rattle.ep_model.specs.Quota.{pinned, standing_blocks, need, is_overfull, is_short}
+use Rattle.ep_model.specs.Quota.{pinned, standing_blocks, need, exceeds, is_overfull, is_short}
 use Rattle.ep_model.specs.Legal.{IsServing, IsLegal}
 use Rattle.ep_model.proofs.EffectLemmas.{get_done}
 use Rattle.hold_stage.proofs.Views.{frame_after}
@@ -49,19 +51,28 @@ prior_shows f stripe caller call key part ticket outcome legal keyed s p is told
     let same : found.0.key ≡ key = same_key f found.0.ticket key found.0.key caller call p.before p.later legal waits (p.asked ∙ ap (λ (t : Ticket). p.before ++ Asked t caller call ∷ p.later) (sym found.1)) keyed in
     subst (λ (k : List ℕ). OutcomeShows f k outcome) same (subst (λ (o : Outcome). OutcomeShows f found.0.key o) found.2 (found.3.shown told))
 
+-- a document takes a block at least, which is its key's
+takes_room : (key : List ℕ) (blocks : ℕ) (o : Option Doc) → IsKey key → IsOfBlocks key blocks o → 1 ≤ blocks
+takes_room key blocks None keyed h = absurd h
+takes_room key blocks (Some doc) keyed h = let own = own_block (length key) keyed.0 in let is = h.1 in omega arith
+  where
+    own_block : (n : ℕ) → 1 ≤ n → 1 ≤ blocks_for n
+    own_block n some = omega arith
+
 -- where a document that a call needs has no room, the call may be refused
 pub no_room_cause : (f : FrontData) (stripe : ℕ) (call : CallData) (now : ℕ) (key : List ℕ) (part : StripePart) (blocks : ℕ)
-    → stripe_of key f.config.stripes ≡ stripe → AreApart part.table.slots → (world_of f).opened ≡ true
+    → IsKey key → stripe_of key f.config.stripes ≡ stripe → AreApart part.table.slots → (world_of f).opened ≡ true
     → needs f.config.eviction call ≡ true → StripeStands f stripe part → OutcomeShows f key (outcomes.NoRoom blocks) → (world_of f).told ≡ true → has_no_room part.table key blocks ≡ true → is_short f key call now ≡ true
-no_room_cause f stripe call now key part blocks here apart opened needed s shows told full =
+no_room_cause f stripe call now key part blocks keyed here apart opened needed s shows told full =
     let frame = frame_after (begun f) f.events in
     let pins = pinned_is f stripe key part.table s.table (s.table.shown told) opened apart frame.stripes frame.eviction in
     let size = s.table.blocks in
     let stands : standing_blocks key (get (world_of f).docs key) ≡ blocks = standing (get (world_of f).docs key) shows in
     let need_is : (cond (needs (world_of f).eviction call) (standing_blocks key (get (world_of f).docs key)) 0) ≡ blocks =
     ap (λ e. cond (needs e call) (standing_blocks key (get (world_of f).docs key)) 0) frame.eviction ∙ ap (λ b. cond b (standing_blocks key (get (world_of f).docs key)) 0) needed ∙ stands in
-    let over : nat_lt f.config.blocks (pinned (world_of f) stripe (marked f stripe) key + need (world_of f) key call now) ≡ true = grind (arith, nat_tests) in
-    ap (λ b. b || is_overfull f (put_by (answer (world_of f) call now).effect)) (ap (λ n. nat_lt f.config.blocks (pinned (world_of f) n (marked f n) key + need (world_of f) key call now)) here ∙ over)
+    let taken : 1 ≤ blocks = takes_room key blocks (get (world_of f).docs key) keyed shows in
+    let over : exceeds f.config.blocks (pinned (world_of f) stripe (marked f stripe) key) (need (world_of f) key call now) ≡ true = grind (arith, nat_tests) in
+    ap (λ b. b || is_overfull f (put_by (answer (world_of f) call now).effect)) (ap (λ n. exceeds f.config.blocks (pinned (world_of f) n (marked f n) key) (need (world_of f) key call now)) here ∙ over)
   where
     standing : (o : Option Doc) → IsOfBlocks key blocks o → standing_blocks key o ≡ blocks
     standing None h = absurd h
@@ -83,7 +94,7 @@ absent_live : (now : ℕ) (o : Option Doc) → IsAbsent o → live_of o now ≡ 
 absent_live now None h = refl
 absent_live now (Some doc) h = ap (λ b. cond (not b && (doc.expiry == 0 || nat_lt (secs now) doc.expiry)) (Some doc) None) h
 
-module _ (f : FrontData) (stripe caller now : ℕ) (key : List ℕ) (legal : IsLegal f) (here : stripe_of key f.config.stripes ≡ stripe) where
+module _ (f : FrontData) (stripe caller now : ℕ) (key : List ℕ) (keyed : IsKey key) (legal : IsLegal f) (here : stripe_of key f.config.stripes ≡ stripe) where
   -- what a Get left, behind its event
   abbrev Leaves : Option Ticket → Read → Type 0
   Leaves prior r = IsNext f (event_of caller (Get key) now prior r.step r.value) (λ g. StripeStands g stripe r.part)
@@ -144,7 +155,7 @@ module _ (f : FrontData) (stripe caller now : ℕ) (key : List ℕ) (legal : IsL
                 serving = serving;
                 key = key;
                 keyed = refl;
-                short = λ told. no_room_cause f stripe (Get key) now key part blocks here apart opened refl s (prior_shows f stripe caller (Get key) key part ticket (outcomes.NoRoom blocks) legal refl s priors is told) told full;
+                short = λ told. no_room_cause f stripe (Get key) now key part blocks keyed here apart opened refl s (prior_shows f stripe caller (Get key) key part ticket (outcomes.NoRoom blocks) legal refl s priors is told) told full;
               }) (λ place left. (λ same. cc, λ same. cc))
           | false ↦ λ fits. asks (Some ticket) priors
         ] refl
@@ -171,11 +182,11 @@ module _ (f : FrontData) (stripe caller now : ℕ) (key : List ℕ) (legal : IsL
     ] refl
 
 -- Whatever history the stripe of its key stood for, what a Get comes to is legal, and it leaves a stripe that stands.
-pub read_is_legal : (old : StripePart) (key : List ℕ) (now : ℕ) (prior : Option Ticket) → IsStripe old.table
+pub read_is_legal : (old : StripePart) (key : List ℕ) (now : ℕ) (prior : Option Ticket) → IsKey key → IsStripe old.table
     → stripe_of key old.table.stripes ≡ old.table.index → ReadIsLegal old key now prior (read_step old prior key now)
-read_is_legal old key now prior sound home f stripe caller legal s priors =
+read_is_legal old key now prior keyed sound home f stripe caller legal s priors =
     let here : stripe_of key f.config.stripes ≡ stripe = ap (λ n. stripe_of key n) (sym s.table.stripes) ∙ home ∙ s.table.index in
-    read_leaves f stripe caller now key legal here old sound.apart prior priors s (used_stands f stripe key old sound s)
+    read_leaves f stripe caller now key keyed legal here old sound.apart prior priors s (used_stands f stripe key old sound s)
 
 -- A Get leaves its stripe that stripe.
 keeps_memory : (part : StripePart) (prior : Option Ticket) (key : List ℕ) (now : ℕ) (m : Memory) → KeepsStripe part (read_memory part prior key now m).part

@@ -118,6 +118,29 @@ fn checkpoints_have_no_room(rt: HostRuntime) -> Result<(), Fail> {
     Ok(())
 }
 
+// A stripe of 16 blocks is full with 14 of a and 2 of b. A Get of b needs those 2 and has them, and a Set of what is too large
+// needs nothing, so that neither is refused for now.
+#[test]
+fn a_full_stripe_has_room_for_what_it_holds(rt: HostRuntime) -> Result<(), Fail> {
+    let alloc = rt.alloc();
+    let config = layout(16, 64);
+    let mut world = PlainWorld::new(alloc, &config);
+    let mut checkpoints = PlainCheckpoints::new(alloc);
+    for (key, len) in [(B, 128), (A, 1664)] {
+        let given = set(&rt, alloc, &config, &mut world, &mut checkpoints, key, len)?;
+        assert_eq!(rt; given, 0x00);
+    }
+    assert_eq!(rt;
+        set(&rt, alloc, &config, &mut world, &mut checkpoints, C, 1921)?,
+        0x03
+    );
+    let get = Call::Get { key: B };
+    let puts = world.get_puts(B, MOMENT);
+    assert_eq!(rt; world.need(B, &get, MOMENT, puts), 2);
+    assert!(rt; !world.is_short(&config, 0, &checkpoints, B, &get, MOMENT, puts));
+    Ok(())
+}
+
 // A tombstone pins its key's block until it is marked, and then nothing, where a document goes on to pin its key's.
 #[test]
 fn a_tombstone_is_pinned_until_it_is_stored(rt: HostRuntime) -> Result<(), Fail> {

@@ -30,4 +30,4 @@ pub returns-clause-exact : goal.returns-clause-exact
 returns-clause-exact c = read_is_exact c.args.part.now (key_in (call_data c.args.call.now)) c.args.now c.args.prior
 
 pub returns-clause-legal : goal.returns-clause-legal
-returns-clause-legal c = read_is_legal c.args.part.now (key_in (call_data c.args.call.now)) c.args.now c.args.prior c.free-free.ensures.sound c.requires.home
+returns-clause-legal c = read_is_legal c.args.part.now (key_in (call_data c.args.call.now)) c.args.now c.args.prior c.requires.key c.free-free.ensures.sound c.requires.home
