@@ -16,7 +16,7 @@ value_room = max_value + max_key
 
 -- the greatest number of bytes in an event: those of a key and of one value, which a call has or is answered
 abbrev pub event_bytes : ℕ
-event_bytes = max_value + max_key
+event_bytes = value_room
 
 abbrev pub IsKey : List ℕ → Type 0
 IsKey key = (1 ≤ length key) × (length key ≤ max_key)

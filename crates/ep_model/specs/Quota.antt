@@ -59,8 +59,8 @@ abbrev pub exceeds : ℕ → ℕ → ℕ → Bool
 exceeds blocks taken more = not (more == 0) && nat_lt blocks (taken + more)
 
 -- whether a stripe has no room for what a call on a key needs
-abbrev pub is_full : FrontData → List ℕ → CallData → ℕ → Bool
-is_full f key call now =
+abbrev pub stripe_is_full : FrontData → List ℕ → CallData → ℕ → Bool
+stripe_is_full f key call now =
     let stripe = stripe_of key f.config.stripes in
     exceeds f.config.blocks (pinned (world_of f) stripe (marked f stripe) key) (need (world_of f) key call now)
 
@@ -71,4 +71,4 @@ is_overfull f (Some item) = nat_lt f.config.ckpt_blocks (item_blocks (items_abov
 
 -- whether there is no room for a call on a key
 abbrev pub is_short : FrontData → List ℕ → CallData → ℕ → Bool
-is_short f key call now = is_full f key call now || is_overfull f (put_by (answer (world_of f) call now).effect)
+is_short f key call now = stripe_is_full f key call now || is_overfull f (put_by (answer (world_of f) call now).effect)

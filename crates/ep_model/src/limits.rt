@@ -10,7 +10,7 @@ pub const MAX_VALUE: usize = 1_048_576;
 pub const VALUE_ROOM: usize = MAX_VALUE + MAX_KEY;
 
 /// The greatest number of bytes in an event: those of a key and of one value, which a call has or is answered.
-pub const EVENT_BYTES: usize = MAX_VALUE + MAX_KEY;
+pub const EVENT_BYTES: usize = VALUE_ROOM;
 
 /// The first number of nanoseconds since 1970 that is no moment any more.
 pub const END_OF_MOMENTS: u64 = 1 << 62;

@@ -25,7 +25,7 @@ use Rattle.ep_model.specs.Mutations.{put_by, mutation_of}
 use Rattle.ep_model.specs.Needs.{needs}
 use Rattle.ep_model.specs.Front.{begun, world_of, with_event, with_events, marked}
 use Rattle.ep_model.specs.Checkpoints.{Checkpoints, first_checkpoints, queued, queued_if, cut_after, cut_in, cut, items_above, item_blocks}
-use Rattle.ep_model.specs.Quota.{is_other, others_in, pinned_sum, pinned, blocks_if, standing_blocks, old_blocks, need, exceeds, is_full, is_overfull, is_short}
+use Rattle.ep_model.specs.Quota.{is_other, others_in, pinned_sum, pinned, blocks_if, standing_blocks, old_blocks, need, exceeds, stripe_is_full, is_overfull, is_short}
 use Rattle.ep_model.proofs.EffectLemmas.{IsDone, answer_done}
 use Rattle.hold_stage.specs.Touches.{holds_key, is_queue, touches_call, touches}
 use Rattle.hold_stage.specs.Grows.{Quiet}
@@ -137,8 +137,8 @@ module _ (f : FrontData) (held : PartName → Bool) (caller : ℕ) (desk : Bool)
       let pins = same_pinned f.config.stripes stripe (marked f stripe) key (world_of f) (world_of (with_events f more)) (layout_of f) same frame in
       let needed = same_need (world_of f) (world_of (with_events f more)) key call now given (same.docs key refl) frame in
       let effect = (answer (world_of f) call now).effect in
-      ap (λ (a : Answer). is_full (with_events f more) key call now || is_overfull (with_events f more) (put_by a.effect)) given
-      ∙ ap (λ b. is_full (with_events f more) key call now || b) (overfull_at (put_by effect) (λ some. covers Queue (puts_touch f.config (world_of f) call now effect (answer_done (world_of f) call now) some)))
+      ap (λ (a : Answer). stripe_is_full (with_events f more) key call now || is_overfull (with_events f more) (put_by a.effect)) given
+      ∙ ap (λ b. stripe_is_full (with_events f more) key call now || b) (overfull_at (put_by effect) (λ some. covers Queue (puts_touch f.config (world_of f) call now effect (answer_done (world_of f) call now) some)))
       ∙ ap (λ n. exceeds f.config.blocks (pinned (world_of (with_events f more)) stripe n key) (need (world_of (with_events f more)) key call now) || is_overfull f (put_by effect)) mark
       ∙ ap (λ n. exceeds f.config.blocks n (need (world_of (with_events f more)) key call now) || is_overfull f (put_by effect)) pins
       ∙ ap (λ n. exceeds f.config.blocks (pinned (world_of f) stripe (marked f stripe) key) n || is_overfull f (put_by effect)) needed

@@ -9,6 +9,7 @@ use Rattle.ep_model.specs.declared.data.CallData.{CallData}
 use Rattle.ep_model.specs.declared.data.CallData.TheVariants as calls
 use Rattle.ep_model.specs.History.{call_data}
 use Rattle.ep_model.specs.Limits.{IsWithin}
+use Rattle.ep_model.specs.Statuses.{too_large, invalid, unknown_command, not_supported}
 use Rattle.mcbp_frame.specs.declared.frame.FrameData.{FrameData}
 use Rattle.mcbp_ops.specs.declared.kind.Kind.{Kind}
 use Rattle.mcbp_ops.specs.declared.kind.Kind.TheVariants as kinds
@@ -23,10 +24,10 @@ use Rattle.mcbp_ops.specs.Checks.{extras_of, key_of, value_of, refusal_of}
 
 -- the status that answers a refused frame
 abbrev pub bad_status : Bad → ℕ
-bad_status Unknown = 0x81
-bad_status Unsupported = 0x83
-bad_status Invalid = 0x04
-bad_status TooLarge = 0x03
+bad_status Unknown = unknown_command
+bad_status Unsupported = not_supported
+bad_status Invalid = invalid
+bad_status TooLarge = too_large
 
 -- what is asked for, without where its bytes lie
 abbrev pub op_data : Op → OpData

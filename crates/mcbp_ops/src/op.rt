@@ -2,6 +2,7 @@
 ghost use Rattle.std.specs.Prelude.{◌≡◌};
 ghost use Rattle.mcbp_ops.specs.Ops.{bad_status};
 
+use ep_model::status::{INVALID, NOT_SUPPORTED, TOO_LARGE, UNKNOWN_COMMAND};
 use ep_model::{Call, CallData};
 use std::collections::LinkedList;
 
@@ -47,10 +48,10 @@ impl Bad {
         ensures { result ≡ bad_status self }
     {
         match self {
-            Bad::Unknown => 0x81,
-            Bad::Unsupported => 0x83,
-            Bad::Invalid => 0x04,
-            Bad::TooLarge => 0x03,
+            Bad::Unknown => UNKNOWN_COMMAND,
+            Bad::Unsupported => NOT_SUPPORTED,
+            Bad::Invalid => INVALID,
+            Bad::TooLarge => TOO_LARGE,
         }
     }
 }

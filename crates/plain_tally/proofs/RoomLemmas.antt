@@ -28,12 +28,12 @@ use Rattle.ep_model.specs.History.{effect_of, step, after}
 use Rattle.ep_model.specs.Mutations.{above, put_by}
 use Rattle.ep_model.specs.Front.{begun, world_of, marked}
 use Rattle.ep_model.specs.Checkpoints.{Checkpoints, first_checkpoints, queued, cut_after, cut_in, cut, has_item, but_item, all_items, items_above, item_blocks, then_opened}
-use Rattle.ep_model.specs.Quota.{is_other, pinned_sum, pinned, need, exceeds, is_full, is_overfull, is_short}
+use Rattle.ep_model.specs.Quota.{is_other, pinned_sum, pinned, need, exceeds, stripe_is_full, is_overfull, is_short}
 use Rattle.plain_tally.specs.declared.item.PlainItem.{PlainItem}
 use Rattle.plain_tally.specs.declared.checkpoints.PlainCheckpoint.{PlainCheckpoint}
 use Rattle.plain_tally.specs.Items.{item_data, items_data, checkpoint_data, checkpoints_data, kept_cost}
 use Rattle.plain_tally.specs.Laws.{are_distinct}
-use Rattle.plain_tally.specs.Rooms.{world_data, doc_data, is_full_at, is_overfull_at, ShortAtEnd, CutGrows}
+use Rattle.plain_tally.specs.Rooms.{world_data, doc_data, stripe_is_full_at, is_overfull_at, ShortAtEnd, CutGrows}
 use Rattle.plain_tally.proofs.TallyLemmas.{all-append, blocks-append, pinned_of_list}
 
 -- the blocks of one item, if it is above a number
@@ -208,7 +208,7 @@ overfull_same f (Some item) = refl
 
 pub short_at_end : ShortAtEnd
 short_at_end f key call now =
-    ap (λ b. is_full f key call now || b) (overfull_same f (put_by (answer (world_of f) call now).effect))
+    ap (λ b. stripe_is_full f key call now || b) (overfull_same f (put_by (answer (world_of f) call now).effect))
     ∙ ap (λ n. exceeds f.config.blocks (pinned (world_of f) (stripe_of key n) (marked f (stripe_of key f.config.stripes)) key) (need (world_of f) key call now) || is_overfull_at f.config.ckpt_blocks f.config.ckpt_max (world_of f).persisted (cut f) (put_by (answer (world_of f) call now).effect)) (sym (after_stripes (begun f) f.events))
 
 cut_more : (most : ℕ) (w : World) (c : Checkpoints) (events : List EventData) (event : EventData) → cut_in most w c (events ++ event ∷ []) ≡ cut_after most (after w events) (cut_in most w c events) event

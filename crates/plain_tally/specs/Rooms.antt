@@ -39,8 +39,8 @@ abbrev pub doc_data : PlainItem → Doc
 doc_data item = (item_data item).1
 
 -- the stripe has no room for what a call needs, where it knows what is stored up to a mark
-abbrev pub is_full_at : ℕ → World → ℕ → List ℕ → CallData → ℕ → Bool
-is_full_at blocks w mark key call now = exceeds blocks (pinned w (stripe_of key w.stripes) mark key) (need w key call now)
+abbrev pub stripe_is_full_at : ℕ → World → ℕ → List ℕ → CallData → ℕ → Bool
+stripe_is_full_at blocks w mark key call now = exceeds blocks (pinned w (stripe_of key w.stripes) mark key) (need w key call now)
 
 -- nor have the checkpoints for what it puts
 abbrev pub is_overfull_at : ℕ → ℕ → ℕ → Checkpoints → Option Item → Bool
@@ -49,7 +49,7 @@ is_overfull_at ckpt_blocks ckpt_max persisted c (Some item) = nat_lt ckpt_blocks
 
 abbrev pub is_short_at : Config → World → ℕ → Checkpoints → List ℕ → CallData → ℕ → Bool
 is_short_at config w mark c key call now =
-    is_full_at config.blocks w mark key call now || is_overfull_at config.ckpt_blocks config.ckpt_max w.persisted c (put_by (answer w call now).effect)
+    stripe_is_full_at config.blocks w mark key call now || is_overfull_at config.ckpt_blocks config.ckpt_max w.persisted c (put_by (answer w call now).effect)
 
 -- At a history's end this is whether the history leaves no room.
 abbrev pub ShortAtEnd : Type 0

@@ -111,7 +111,7 @@ impl PlainWorld {
     ghost use Rattle.ep_model.specs.Mutations.{put_by};
     ghost use Rattle.ep_model.specs.Quota.{pinned, need, old_blocks};
     ghost use Rattle.plain_tally.specs.Items.{item_data};
-    ghost use Rattle.plain_tally.specs.Rooms.{doc_data, open_world, is_full_at, is_short_at};
+    ghost use Rattle.plain_tally.specs.Rooms.{doc_data, open_world, stripe_is_full_at, is_short_at};
 
     /// A vBucket with this layout and nothing else. It takes no memory.
     pub fn new(alloc: Global, config: &Config) -> PlainWorld
@@ -219,12 +219,12 @@ impl PlainWorld {
         requires puts { option_map item_data (option_copied puts) ≡ put_by (answer self.now (call_data call.now) now).effect }
         ensures { result ≡ is_short_at config.now self.now mark checkpoints.now key.now (call_data call.now) now }
     {
-        self.is_full(config.blocks, mark, key, call, now, puts)
+        self.stripe_is_full(config.blocks, mark, key, call, now, puts)
             || is_overfull(config, self.persisted, checkpoints, puts)
     }
 
     // Whether the key's stripe has no room for what a call needs.
-    fn is_full(
+    fn stripe_is_full(
         &self,
         blocks: u32,
         mark: u64,
@@ -235,10 +235,17 @@ impl PlainWorld {
     ) -> bool
         requires key { IsKey key.now }
         requires puts { option_map item_data (option_copied puts) ≡ put_by (answer self.now (call_data call.now) now).effect }
-        ensures { result ≡ is_full_at blocks self.now mark key.now (call_data call.now) now }
+        ensures { result ≡ stripe_is_full_at blocks self.now mark key.now (call_data call.now) now }
     {
         let need = self.need(key, call, now, puts);
         need != 0 && self.pinned(mark, key).saturating_add(need) > u64::from(blocks)
+    }
+
+    /// Notes that the store holds all mutations up to this number.
+    pub fn persist(&mut self, number: u64)
+        ensures { self.new ≡ record self.old { persisted = number } }
+    {
+        self.persisted = number;
     }
 
     /// Puts a document in place of the key's. Its numbers are now the greatest.

@@ -10,7 +10,7 @@ use Rattle.ep_model.specs.declared.data.FrontData.{FrontData}
 use Rattle.ep_model.specs.World.{Doc, blocks, doc_from, doc_blocks, Item}
 use Rattle.ep_model.specs.Answer.{Effect}
 use Rattle.ep_model.specs.Mutations.{put_by, above}
-use Rattle.ep_model.specs.Quota.{is_full, is_overfull}
+use Rattle.ep_model.specs.Quota.{stripe_is_full, is_overfull}
 use Rattle.ep_model.specs.Front.{world_of}
 use Rattle.ep_model.specs.Checkpoints.{Checkpoints, then_opened, has_item, but_item, queued, cut, all_items, items_above, item_blocks}
 use Rattle.hold_stage.proofs.Views.{or_true_right}
@@ -114,7 +114,7 @@ short_is_quota f caller call now q key meta value serving keyed puts short s = r
   key = key;
   keyed = keyed;
   short = λ told.
-      or_true_right (is_full f key call now) _
+      or_true_right (stripe_is_full f key call now) _
       (ap (λ (e : Effect). is_overfull f (put_by e)) (puts told)
       ∙ short_is_overfull f q key (doc_from (item_of key meta value ((world_of f).high + 1)).meta value) told refl s
       ∙ high_test q.blocks (kept_with q key (length value)) short);

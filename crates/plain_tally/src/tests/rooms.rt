@@ -3,7 +3,7 @@ ghost use Rattle.std.specs.Prelude.{◌<◌};
 ghost use Rattle.ep_model.specs.Limits.{IsKey};
 
 use crate::{PlainCheckpoints, PlainWorld};
-use ep_model::{Call, Cause, Config, Eviction, NoMemory, Reply, StoreKind, rules, status};
+use ep_model::{Call, Cause, Config, Event, Eviction, NoMemory, Reply, StoreKind, rules, status};
 use std::alloc::Global;
 use std::process::Abort;
 use std::test::Fail;
@@ -114,6 +114,66 @@ fn checkpoints_have_no_room(rt: HostRuntime) -> Result<(), Fail> {
     if let Some(item) = found {
         assert_eq!(rt; item.value.len(), 1792);
         assert_eq!(rt; item.cas, CAS);
+    }
+    Ok(())
+}
+
+/// All mutations up to a number are stored.
+fn store(
+    rt: &impl Abort,
+    config: &Config,
+    world: &mut PlainWorld,
+    checkpoints: &mut PlainCheckpoints,
+    number: u64,
+) -> Result<(), NoMemory> {
+    assert!(rt; checkpoints.id() < 1000);
+    checkpoints.follow(config.ckpt_max, world, &Event::Persisted { number }, None)?;
+    world.persist(number);
+    Ok(())
+}
+
+// Checkpoints of 16 blocks, 15 of which a takes, have room for 3 of b once a is stored, and the next checkpoint is open.
+#[test]
+fn what_is_stored_makes_room(rt: HostRuntime) -> Result<(), Fail> {
+    let alloc = rt.alloc();
+    let config = layout(64, 16);
+    let mut world = PlainWorld::new(alloc, &config);
+    let mut checkpoints = PlainCheckpoints::new(alloc);
+    assert_eq!(rt;
+        set(&rt, alloc, &config, &mut world, &mut checkpoints, A, 1792)?,
+        0x00
+    );
+    assert_eq!(rt;
+        set(&rt, alloc, &config, &mut world, &mut checkpoints, B, 256)?,
+        0x86
+    );
+    store(&rt, &config, &mut world, &mut checkpoints, 1)?;
+    assert_eq!(rt; checkpoints.id(), 2);
+    assert_eq!(rt;
+        set(&rt, alloc, &config, &mut world, &mut checkpoints, B, 256)?,
+        0x00
+    );
+    Ok(())
+}
+
+// Under full eviction a Delete needs the old document, under value eviction only the tombstone that it puts.
+#[test]
+fn an_eviction_says_what_a_delete_needs(rt: HostRuntime) -> Result<(), Fail> {
+    let alloc = rt.alloc();
+    for (eviction, need) in [(Eviction::Full, 15), (Eviction::Value, 1)] {
+        let config = Config {
+            eviction,
+            ..layout(64, 64)
+        };
+        let mut world = PlainWorld::new(alloc, &config);
+        let mut checkpoints = PlainCheckpoints::new(alloc);
+        let given = set(&rt, alloc, &config, &mut world, &mut checkpoints, A, 1792)?;
+        assert_eq!(rt; given, 0x00);
+        assert!(rt; world.high() < 1000);
+        assert!(rt; world.maxcas() < 1 << 62);
+        let puts = world.delete_puts(alloc, A, 0, MOMENT)?;
+        let call = Call::Delete { key: A, cas: 0 };
+        assert_eq!(rt; world.need(A, &call, MOMENT, puts.as_ref()), need);
     }
     Ok(())
 }
