@@ -1,4 +1,4 @@
-// Decimal text.
+//! Decimal text.
 ghost use Rattle.std.specs.Prelude.{◌≡◌, ◌≤◌, length, decimal, IfOk};
 ghost use Rattle.std.specs.Char.{is_ascii_digit};
 ghost use Rattle.std.specs.List.{list_all};
@@ -13,7 +13,7 @@ use std::str;
 const MAX_DIGITS: usize = 20;
 
 /// The number of a text of 1 to 20 digits, where it is below 2^64. Zeros may stand first.
-pub(crate) fn number_of(text: &[u8]) -> Option<u64>
+pub fn number_of(text: &[u8]) -> Option<u64>
     ensures { result ≡ number_of text.now }
 {
     if text.len() > MAX_DIGITS || !all_digits(text) {

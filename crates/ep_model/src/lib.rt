@@ -6,7 +6,7 @@ mod bytes;
 mod call;
 mod config;
 mod data;
-mod decimal;
+pub mod decimal;
 mod document;
 mod event;
 pub mod laws;

@@ -3,10 +3,12 @@ ghost use Rattle.std.specs.Prelude.{◌≡◌, ◌+◌, ◌<◌, ◌^◌};
 ghost use Rattle.ep_model.specs.World.{secs, is_live, stamp, stored_expiry, blocks, blank_doc, empty_world};
 ghost use Rattle.ep_model.specs.Refusals.{state_refusal, size_refusal, join_refusal, cas_refusal, wanted_refusal, store_refusal, new_count_refusal, number_refusal};
 ghost use Rattle.ep_model.specs.Answer.{counted};
+ghost use Rattle.ep_model.specs.History.{call_data};
+ghost use Rattle.ep_model.specs.Needs.{needs};
 
 use crate::limits::MAX_VALUE;
 use crate::status::{KEY_EXISTS, KEY_NOT_FOUND, NOT_MY_VBUCKET, OUT_OF_RANGE, TOO_LARGE};
-use crate::{StoreKind, VbState};
+use crate::{Call, Eviction, StoreKind, VbState};
 
 /// The greatest sequence number of a vBucket.
 pub const LAST_SEQNO: u64 = 0xffff_ffff_ffff;
@@ -167,5 +169,26 @@ pub fn counted(down: bool, number: u64, delta: u64) -> u64
         number.saturating_sub(delta)
     } else {
         number.wrapping_add(delta)
+    }
+}
+
+/// Whether a call needs the old document of its key, beyond what value eviction leaves of it in memory.
+pub fn needs(eviction: Eviction, call: &Call) -> bool
+    ensures { result ≡ needs eviction (call_data call.now) }
+{
+    match *call {
+        Call::Get { .. } | Call::Join { .. } | Call::Count { .. } | Call::Touch { .. } => true,
+        Call::Store { kind, cas, .. } => match eviction {
+            Eviction::Value => false,
+            Eviction::Full => match kind {
+                StoreKind::Set => cas != 0,
+                StoreKind::Add | StoreKind::Replace => true,
+            },
+        },
+        Call::Delete { .. } => match eviction {
+            Eviction::Value => false,
+            Eviction::Full => true,
+        },
+        Call::Observe { .. } | Call::Failovers | Call::SetState { .. } | Call::GetState => false,
     }
 }
