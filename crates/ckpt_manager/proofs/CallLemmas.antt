@@ -26,8 +26,8 @@ pub record Leaves (a : Inside) (q : QueueData) : Type 0 where
   pub is : queue_view a ≡ q
   pub counted : CountsKeys a
 
-leaves : (a : Inside) (q : QueueData) → queue_view a ≡ q → a.keys ≡ length a.items.last → IsSoundQueue q → Leaves a q
-leaves a q is count s = record { is = is; counted = record { count = count; sound = subst IsSoundQueue (sym is) s } }
+leaves : (a : Inside) (q : QueueData) → queue_view a ≡ q → a.keys ≡ length a.items.last → a.blocks ≡ a.items.blocks → IsSoundQueue q → Leaves a q
+leaves a q is count most s = record { is = is; counted = record { count = count; blocks = most; sound = subst IsSoundQueue (sym is) s } }
 
 pub sound-of : (a : Inside) (q : QueueData) → queue_view a ≡ q → CountsKeys a → IsSoundQueue q
 sound-of a q is c = subst IsSoundQueue is c.sound
@@ -118,7 +118,7 @@ clear-found a q items key n view c is left =
     let count : a.keys - 1 ≡ length items.last = omega (arith, c.count, one.fewer, ap (λ (l : List ItemData). length l) f) in
     let s : IsSoundQueue (cleared q key) = (is-cleared q key (sound-of a q view c)).sound in
     leaves (record a { items = items; keys = a.keys - 1 }) (cleared q key)
-    (new ∙ clear-thinned (queue_view a) key j.0 j.1 ∙ ap (λ (q : QueueData). cleared q key) view) count s
+    (new ∙ clear-thinned (queue_view a) key j.0 j.1 ∙ ap (λ (q : QueueData). cleared q key) view) count (c.blocks ∙ sym g) s
 
 not-least : (a b : ℕ) → a < b → nat_le b a ≡ false
 not-least a b lower = grind (arith, nat_tests)
@@ -137,7 +137,7 @@ close-all a q items view c some left =
     let new : queue_view (record a { items = items; keys = 0; id = a.id + 1 }) ≡ closed (queue_view a) = ap (λ (i : ItemsData). queue_view (record a { items = i; keys = 0; id = a.id + 1 })) left in
     let count : 0 ≡ length items.last = sym (ap (λ (i : ItemsData). length i.last) left) in
     leaves (record a { items = items; keys = 0; id = a.id + 1 }) (closed q)
-    (new ∙ ap closed view) count (sound-closed q (sound-of a q view c) some)
+    (new ∙ ap closed view) count (c.blocks ∙ sym (ap (λ (i : ItemsData). i.blocks) left)) (sound-closed q (sound-of a q view c) some)
 
 -- a mutation is put last
 
@@ -157,7 +157,7 @@ put-all a q items key meta value view c s is_key is_value room few stamp len lef
     let count : a.keys + 1 ≡ length items.last =
     omega (arith, c.count, ap (λ (i : ItemsData). length i.last) left, length-push a.items.last (item_of key meta value (a.high + 1))) in
     leaves (record a { items = items; keys = a.keys + 1; high = a.high + 1; maxcas = meta.cas }) (queued q key meta value)
-    (new ∙ ap (λ (q : QueueData). put_last q key meta value) view) count
+    (new ∙ ap (λ (q : QueueData). put_last q key meta value) view) count (c.blocks ∙ sym (ap (λ (i : ItemsData). i.blocks) left))
     (sound-put (cleared q key) key meta value k.sound is_key is_value k.absent k.fewer (omega (arith, few, k.high)) (omega (arith, stamp, k.high)) len (room-cleared q key (length value) s room))
 
 -- an item goes
@@ -185,7 +185,7 @@ expel-one a q items n view c is le left =
     let new : queue_view (record a { items = items }) ≡ record (queue_view a) { closed = drop 1 a.items.closed } =
     ap (λ (i : ItemsData). queue_view (record a { items = i })) made in
     let count : a.keys ≡ length items.last = c.count ∙ ap (λ (l : List ItemData). length l) (sym f) in (
-      leaves (record a { items = items }) (record q { closed = drop 1 q.closed }) (new ∙ ap (λ (q : QueueData). record q { closed = drop 1 q.closed }) view) count (sound-dropped q 1 s),
+      leaves (record a { items = items }) (record q { closed = drop 1 q.closed }) (new ∙ ap (λ (q : QueueData). record q { closed = drop 1 q.closed }) view) count (c.blocks ∙ sym g) (sound-dropped q 1 s),
       one-of a q n view le old,
     )
 

@@ -21,7 +21,8 @@ queue_view q = record {
   opened = q.opened;
 }
 
--- the keys of the open checkpoint are counted
+-- the keys of the open checkpoint are counted, and the blocks are those of the items
 pub record CountsKeys (q : Inside) : Type 0 where
   pub count : q.keys ≡ length q.items.last
+  pub blocks : q.blocks ≡ q.items.blocks
   pub sound : IsSoundQueue (queue_view q)

@@ -16,6 +16,8 @@ use std::marker::Model;
 #[derive(Drop)]
 pub struct Queue {
     items: Items,
+    // how many blocks the items share
+    blocks: u32,
     // how many keys the open checkpoint has
     keys: u32,
     ckpt_max: u32,
@@ -69,11 +71,13 @@ impl Queue {
         requires { config_fault config.now ≡ None }
         ensures { IfOk result (λ q. q ≡ fresh config.now.ckpt_blocks config.now.ckpt_max) }
     {
+        let blocks = config.ckpt_blocks;
         let ckpt_max = config.ckpt_max;
         match Items::new(alloc, config.ckpt_blocks) {
             Err(e) => Err(e),
             Ok(items) => Ok(Queue {
                 items,
+                blocks,
                 keys: 0,
                 ckpt_max,
                 id: 1,
@@ -142,6 +146,14 @@ impl Queue {
         ensures sound { IsSoundQueue self.now }
     {
         self.items.free()
+    }
+
+    /// How many blocks the items share.
+    pub fn blocks(&self) -> u32
+        ensures blocks { result ≡ self.now.blocks }
+        ensures sound { IsSoundQueue self.now }
+    {
+        self.blocks
     }
 
     /// The blocks of the key's item in the open checkpoint, 0 where there is none.
