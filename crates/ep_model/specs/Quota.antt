@@ -1,5 +1,6 @@
 -- How much of a bucket's memory what isn't stored takes, and when that leaves no room for a call.
 use Rattle.std.specs.Prelude.{ℕ, ◌+◌, ◌==◌, Bool, true, false, not, ◌&&◌, ◌||◌, nat_lt, if◌then◌else◌, max, List, length, sum_by, Option, Some, None}
+use Rattle.std.specs.Option.{is_none}
 use Rattle.std.specs.FinMap as finmap
 use Rattle.std.specs.Str.{bytes_eq}
 use Rattle.ep_model.specs.declared.config.Eviction.{Eviction}
@@ -10,7 +11,7 @@ use Rattle.ep_model.specs.Stripes.{stripe_of}
 use Rattle.ep_model.specs.World.{Doc, Docs, Item, World, blocks, doc_blocks}
 use Rattle.ep_model.specs.Answer.{Effect, answer}
 use Rattle.ep_model.specs.Mutations.{put_by}
-use Rattle.ep_model.specs.Needs.{needs}
+use Rattle.ep_model.specs.Needs.{needs, own_refusal}
 use Rattle.ep_model.specs.Front.{world_of, marked}
 use Rattle.ep_model.specs.Checkpoints.{queued, cut, items_above, item_blocks}
 
@@ -46,9 +47,10 @@ abbrev pub standing_blocks : List ℕ → Option Doc → ℕ
 standing_blocks key None = 0
 standing_blocks key (Some doc) = if doc.deleted then 0 else doc_blocks key doc
 
--- the blocks of the old document, for a call that needs it
+-- the blocks of the old document, for a call that needs it and isn't refused whatever that is
 abbrev pub old_blocks : World → List ℕ → CallData → ℕ
-old_blocks w key call = if needs w.eviction call then standing_blocks key (finmap.get w.docs key) else 0
+old_blocks w key call =
+    if needs w.eviction call && is_none (own_refusal w.fit call) then standing_blocks key (finmap.get w.docs key) else 0
 
 -- the blocks of the document that a call needs in memory, the new one or the old
 abbrev pub need : World → List ℕ → CallData → ℕ → ℕ

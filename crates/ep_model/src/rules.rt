@@ -1,10 +1,10 @@
 //! The rules on numbers: moments, expiries, CAS values, sequence numbers and blocks.
-ghost use Rattle.std.specs.Prelude.{◌≡◌, ◌+◌, ◌<◌, ◌^◌};
+ghost use Rattle.std.specs.Prelude.{◌≡◌, ◌+◌, ◌<◌, ◌^◌, length};
 ghost use Rattle.ep_model.specs.World.{secs, is_live, stamp, stored_expiry, blocks, blank_doc, empty_world};
 ghost use Rattle.ep_model.specs.Refusals.{state_refusal, size_refusal, join_refusal, cas_refusal, wanted_refusal, store_refusal, new_count_refusal, number_refusal};
 ghost use Rattle.ep_model.specs.Answer.{counted};
 ghost use Rattle.ep_model.specs.History.{call_data};
-ghost use Rattle.ep_model.specs.Needs.{needs};
+ghost use Rattle.ep_model.specs.Needs.{needs, own_refusal};
 
 use crate::limits::MAX_VALUE;
 use crate::status::{KEY_EXISTS, KEY_NOT_FOUND, NOT_MY_VBUCKET, OUT_OF_RANGE, TOO_LARGE};
@@ -190,5 +190,31 @@ pub fn needs(eviction: Eviction, call: &Call) -> bool
             Eviction::Full => true,
         },
         Call::Observe { .. } | Call::Failovers | Call::SetState { .. } | Call::GetState => false,
+    }
+}
+
+/// The status by which a document of this key and this value is refused, if it takes more than `fit` blocks.
+pub fn text_refusal(fit: u32, key: &[u8], value: &[u8]) -> Option<u16>
+    ensures { result ≡ size_refusal fit (length key.now) (length value.now) }
+{
+    size_refusal(fit, key.len(), value.len())
+}
+
+/// The status by which a call is refused whatever the old document of its key is, if it is: what it is to store takes more than
+/// `fit` blocks.
+pub fn own_refusal(fit: u32, call: &Call) -> Option<u16>
+    ensures { result ≡ own_refusal fit (call_data call.now) }
+{
+    match *call {
+        Call::Store { key, value, .. } => text_refusal(fit, key, value),
+        Call::Get { .. }
+        | Call::Join { .. }
+        | Call::Count { .. }
+        | Call::Delete { .. }
+        | Call::Touch { .. }
+        | Call::Observe { .. }
+        | Call::Failovers
+        | Call::SetState { .. }
+        | Call::GetState => None,
     }
 }

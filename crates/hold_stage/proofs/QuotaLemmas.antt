@@ -4,6 +4,7 @@ use Rattle.std.specs.Prelude.{Option, Some, None, IsSome, not, ◌==◌, ◌&&�
 use Rattle.std.specs.Ordering.{nat_cmp}
 use Rattle.std.specs.declared.cmp.Ordering.TheVariants.{Equal}
 use Rattle.std.specs.Cmp.Lexicographic.{slice_cmp, nat_list_cmp_total}
+use Rattle.std.specs.Option.{is_none}
 use Rattle.std.specs.FinMap as finmap
 use Rattle.std.specs.FinMap.{get, get-retain_keys, same_map, slice_cmp-IsAntisymmetric, nat_cmp-IsAntisymmetric}
 use Rattle.std.proofs.lemmas.Bool.Decides.{Decides-eqb}
@@ -22,7 +23,7 @@ use Rattle.ep_model.specs.Answer.{Effect, Nothing, Puts, Sets, Answer, answer}
 use Rattle.ep_model.specs.History.{step, after}
 use Rattle.ep_model.specs.Calls.{key_of, written_key}
 use Rattle.ep_model.specs.Mutations.{put_by, mutation_of}
-use Rattle.ep_model.specs.Needs.{needs}
+use Rattle.ep_model.specs.Needs.{needs, own_refusal}
 use Rattle.ep_model.specs.Front.{begun, world_of, with_event, with_events, marked}
 use Rattle.ep_model.specs.Checkpoints.{Checkpoints, first_checkpoints, queued, queued_if, cut_after, cut_in, cut, items_above, item_blocks}
 use Rattle.ep_model.specs.Quota.{is_other, others_in, pinned_sum, pinned, blocks_if, standing_blocks, old_blocks, need, exceeds, stripe_is_full, is_overfull, is_short}
@@ -75,8 +76,9 @@ need_of a old = max (blocks_if (put_by a.effect)) old
 pub same_need : (v w : World) (key : List ℕ) (call : CallData) (now : ℕ) → answer w call now ≡ answer v call now → get w.docs key ≡ get v.docs key → SameFrame v w → need w key call now ≡ need v key call now
 same_need v w key call now same docs frame =
     ap (λ (a : Answer). need_of a (old_blocks w key call)) same
-    ∙ ap (λ (e : Eviction). need_of (answer v call now) (cond (needs e call) (standing_blocks key (get w.docs key)) 0)) frame.eviction
-    ∙ ap (λ (o : Option Doc). need_of (answer v call now) (cond (needs v.eviction call) (standing_blocks key o) 0)) docs
+    ∙ ap (λ (e : Eviction). need_of (answer v call now) (cond (needs e call && is_none (own_refusal w.fit call)) (standing_blocks key (get w.docs key)) 0)) frame.eviction
+    ∙ ap (λ n. need_of (answer v call now) (cond (needs v.eviction call && is_none (own_refusal n call)) (standing_blocks key (get w.docs key)) 0)) frame.fit
+    ∙ ap (λ (o : Option Doc). need_of (answer v call now) (cond (needs v.eviction call && is_none (own_refusal v.fit call)) (standing_blocks key o) 0)) docs
 
 -- Checkpoints: of two parts of a history, and what an event leaves that doesn't touch the queue.
 pub cut_append : (most : ℕ) (w : World) (c : Checkpoints) (xs ys : List EventData) → cut_in most w c (xs ++ ys) ≡ cut_in most (after w xs) (cut_in most w c xs) ys

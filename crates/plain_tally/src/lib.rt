@@ -12,7 +12,7 @@ mod world;
 pub use checkpoints::PlainCheckpoints;
 pub use documents::pinned;
 pub use item::PlainItem;
-pub use world::{PlainWorld, needs};
+pub use world::PlainWorld;
 
 #[cfg(test)]
 mod tests;

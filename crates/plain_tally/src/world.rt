@@ -1,7 +1,6 @@
 // A vBucket of plain lists, and whether there is room for a call.
 ghost use Rattle.std.specs.Prelude.{◌≡◌};
 ghost use Rattle.ep_model.specs.History.{call_data};
-ghost use Rattle.ep_model.specs.Needs.{needs};
 ghost use Rattle.std.specs.List.{find};
 ghost use Rattle.std.specs.Option.{option_map, option_copied};
 ghost use Rattle.std.specs.Str.{bytes_eq};
@@ -14,7 +13,7 @@ ghost use Rattle.plain_tally.specs.Rooms.{doc_data, is_overfull_at};
 use crate::checkpoints::{PlainCheckpoints, forget};
 use crate::documents::pinned;
 use crate::item::PlainItem;
-use ep_model::{Call, Config, Eviction, NoMemory, StoreKind, VbState, rules, stripe_of};
+use ep_model::{Call, Config, Eviction, NoMemory, VbState, rules, stripe_of};
 use std::alloc::Global;
 use std::marker::Model;
 
@@ -47,27 +46,6 @@ impl Model for PlainWorld {
     ghost view = { λ w. world_data w.eviction w.stripes w.fit w.state w.documents.items w.high w.maxcas w.persisted };
 
     ghost invariant = { λ w. (0 < w.stripes) × (are_distinct (items_data w.documents.items) ≡ true) };
-}
-
-/// Whether a call needs the old document.
-pub fn needs(eviction: Eviction, call: &Call) -> bool
-    ensures { result ≡ needs eviction (call_data call.now) }
-{
-    match *call {
-        Call::Get { .. } | Call::Join { .. } | Call::Count { .. } | Call::Touch { .. } => true,
-        Call::Store { kind, cas, .. } => match eviction {
-            Eviction::Value => false,
-            Eviction::Full => match kind {
-                StoreKind::Set => cas != 0,
-                StoreKind::Add | StoreKind::Replace => true,
-            },
-        },
-        Call::Delete { .. } => match eviction {
-            Eviction::Value => false,
-            Eviction::Full => true,
-        },
-        Call::Observe { .. } | Call::Failovers | Call::SetState { .. } | Call::GetState => false,
-    }
 }
 
 // The first document of a key.
@@ -175,12 +153,12 @@ impl PlainWorld {
         blocks_of(puts).max(self.old_blocks(key, call))
     }
 
-    // The blocks of the old document, for a call that needs it.
+    // The blocks of the old document, for a call that needs it and isn't refused whatever that is.
     fn old_blocks(&self, key: &[u8], call: &Call) -> u64
         requires { IsKey key.now }
         ensures { result ≡ old_blocks self.now key.now (call_data call.now) }
     {
-        if needs(self.eviction, call) {
+        if rules::needs(self.eviction, call) && rules::own_refusal(self.fit, call).is_none() {
             standing_blocks(key, self.get(key))
         } else {
             0

@@ -156,7 +156,8 @@ fn what_is_stored_makes_room(rt: HostRuntime) -> Result<(), Fail> {
     Ok(())
 }
 
-// Under full eviction a Delete needs the old document, under value eviction only the tombstone that it puts.
+// Under full eviction a Delete needs the old document, under value eviction only the tombstone that it puts. A Replace by what is
+// too large needs nothing.
 #[test]
 fn an_eviction_says_what_a_delete_needs(rt: HostRuntime) -> Result<(), Fail> {
     let alloc = rt.alloc();
@@ -174,6 +175,19 @@ fn an_eviction_says_what_a_delete_needs(rt: HostRuntime) -> Result<(), Fail> {
         let puts = world.delete_puts(alloc, A, 0, MOMENT)?;
         let call = Call::Delete { key: A, cas: 0 };
         assert_eq!(rt; world.need(A, &call, MOMENT, puts.as_ref()), need);
+        let value = vec![in alloc; 0u8; 8192]?;
+        assert!(rt; value.len() <= 1_048_576);
+        let kind = StoreKind::Replace;
+        let puts = world.store_puts(alloc, kind, A, &value, 0, 0, 0, MOMENT)?;
+        let call = Call::Store {
+            kind,
+            key: A,
+            value: &value,
+            flags: 0,
+            expiration: 0,
+            cas: 0,
+        };
+        assert_eq!(rt; world.need(A, &call, MOMENT, puts.as_ref()), 0);
     }
     Ok(())
 }
