@@ -1,6 +1,7 @@
 -- A Get on a stripe that stands: its event is legal, and the stripe stands behind it.
 use Rattle.std.proofs.Common.{◌≡◌, ℕ, ◌≤◌, ◌+◌, true, false, cond, List, ◌∷◌, ◌++◌, length, refl, sym, ap, subst, ◌∙◌, arith}
 use Rattle.std.specs.Prelude.{Option, Some, None, nat_lt, not, ◌==◌, ◌&&◌, ◌||◌}
+use Rattle.std.specs.Option.{is_none}
 use Rattle.std.specs.FinMap.{get}
 use Rattle.std.proofs.lemmas.Bool.Decides.{nat_tests}
 use Rattle.ep_model.specs.declared.call.VbState.{VbState}
@@ -16,12 +17,12 @@ use Rattle.ep_model.specs.World.{blocks as blocks_for}
 use Rattle.ep_model.specs.Limits.{IsKey}
 use Rattle.ep_model.specs.Stripes.{stripe_of}
 use Rattle.ep_model.specs.Calls.{key_of}
-use Rattle.ep_model.specs.Needs.{needs}
+use Rattle.ep_model.specs.Needs.{needs, own_refusal}
 use Rattle.ep_model.specs.Refusals.{state_refusal}
 use Rattle.ep_model.specs.Answer.{Answer, unless, refused, answer_get, answer_row, answer}
 use Rattle.ep_model.specs.Mutations.{put_by}
 use Rattle.ep_model.specs.Front.{begun, world_of, marked}
-use Rattle.ep_model.specs.Quota.{pinned, standing_blocks, need, exceeds, is_overfull, is_short}
+use Rattle.ep_model.specs.Quota.{pinned, standing_blocks, old_blocks, need, exceeds, is_overfull, is_short}
 use Rattle.ep_model.specs.Legal.{IsServing, IsLegal}
 use Rattle.ep_model.proofs.EffectLemmas.{get_done}
 use Rattle.hold_stage.proofs.Views.{frame_after}
@@ -62,14 +63,17 @@ takes_room key blocks (Some doc) keyed h = let own = own_block (length key) keye
 -- where a document that a call needs has no room, the call may be refused
 pub no_room_cause : (f : FrontData) (stripe : ℕ) (call : CallData) (now : ℕ) (key : List ℕ) (part : StripePart) (blocks : ℕ)
     → IsKey key → stripe_of key f.config.stripes ≡ stripe → AreApart part.table.slots → (world_of f).opened ≡ true
-    → needs f.config.eviction call ≡ true → StripeStands f stripe part → OutcomeShows f key (outcomes.NoRoom blocks) → (world_of f).told ≡ true → has_no_room part.table key blocks ≡ true → is_short f key call now ≡ true
-no_room_cause f stripe call now key part blocks keyed here apart opened needed s shows told full =
+    → needs f.config.eviction call ≡ true → own_refusal (world_of f).fit call ≡ None → StripeStands f stripe part → OutcomeShows f key (outcomes.NoRoom blocks) → (world_of f).told ≡ true → has_no_room part.table key blocks ≡ true → is_short f key call now ≡ true
+no_room_cause f stripe call now key part blocks keyed here apart opened needed own s shows told full =
     let frame = frame_after (begun f) f.events in
     let pins = pinned_is f stripe key part.table s.table (s.table.shown told) opened apart frame.stripes frame.eviction in
     let size = s.table.blocks in
     let stands : standing_blocks key (get (world_of f).docs key) ≡ blocks = standing (get (world_of f).docs key) shows in
-    let need_is : (cond (needs (world_of f).eviction call) (standing_blocks key (get (world_of f).docs key)) 0) ≡ blocks =
-    ap (λ e. cond (needs e call) (standing_blocks key (get (world_of f).docs key)) 0) frame.eviction ∙ ap (λ b. cond b (standing_blocks key (get (world_of f).docs key)) 0) needed ∙ stands in
+    let need_is : old_blocks (world_of f) key call ≡ blocks =
+    ap (λ e. cond (needs e call && is_none (own_refusal (world_of f).fit call)) (standing_blocks key (get (world_of f).docs key)) 0) frame.eviction
+    ∙ ap (λ b. cond (b && is_none (own_refusal (world_of f).fit call)) (standing_blocks key (get (world_of f).docs key)) 0) needed
+    ∙ ap (λ (o : Option ℕ). cond (is_none o) (standing_blocks key (get (world_of f).docs key)) 0) own
+    ∙ stands in
     let taken : 1 ≤ blocks = takes_room key blocks (get (world_of f).docs key) keyed shows in
     let over : exceeds f.config.blocks (pinned (world_of f) stripe (marked f stripe) key) (need (world_of f) key call now) ≡ true = grind (arith, nat_tests) in
     ap (λ b. b || is_overfull f (put_by (answer (world_of f) call now).effect)) (ap (λ n. exceeds f.config.blocks (pinned (world_of f) n (marked f n) key) (need (world_of f) key call now)) here ∙ over)
@@ -155,7 +159,7 @@ module _ (f : FrontData) (stripe caller now : ℕ) (key : List ℕ) (keyed : IsK
                 serving = serving;
                 key = key;
                 keyed = refl;
-                short = λ told. no_room_cause f stripe (Get key) now key part blocks keyed here apart opened refl s (prior_shows f stripe caller (Get key) key part ticket (outcomes.NoRoom blocks) legal refl s priors is told) told full;
+                short = λ told. no_room_cause f stripe (Get key) now key part blocks keyed here apart opened refl refl s (prior_shows f stripe caller (Get key) key part ticket (outcomes.NoRoom blocks) legal refl s priors is told) told full;
               }) (λ place left. (λ same. cc, λ same. cc))
           | false ↦ λ fits. asks (Some ticket) priors
         ] refl
