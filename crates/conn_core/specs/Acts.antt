@@ -4,12 +4,11 @@ use Rattle.ep_model.specs.History.{call_data}
 use Rattle.ep_model.specs.Limits.{IsWithin}
 use Rattle.ep_model.specs.Statuses.{success, not_my_vbucket}
 use Rattle.mcbp_frame.specs.declared.frame.FrameData.{FrameData}
-use Rattle.mcbp_frame.specs.Response.{response}
 use Rattle.mcbp_ops.specs.declared.op.Bad.{Bad}
 use Rattle.mcbp_ops.specs.declared.op.OpData.{OpData}
 use Rattle.mcbp_ops.specs.declared.op.OpData.TheVariants as ops
 use Rattle.mcbp_ops.specs.Ops.{op_of, bad_status}
-use Rattle.mcbp_ops.specs.Text.{is_silent, status_text}
+use Rattle.mcbp_ops.specs.Text.{is_silent, status_text, value_text}
 use Rattle.conn_core.specs.declared.act.Act.{Act}
 use Rattle.conn_core.specs.declared.act.Act.TheVariants as acts
 use Rattle.conn_core.specs.declared.act.ActData.{ActData}
@@ -23,10 +22,6 @@ act_data acts.Answered = Answered
 act_data acts.Quit = Quit
 act_data (acts.Engine call) = Engine (call_data call)
 act_data (acts.Stat group) = Stat group.now
-
--- a response that is a value alone
-abbrev pub value_text : FrameData → List ℕ → List ℕ
-value_text f value = response f.opcode success f.opaque 0 0 [] [] value
 
 -- a call goes on where its vBucket is one of so many
 abbrev pub act_of_op : ℕ → FrameData → Result OpData Bad → ActData

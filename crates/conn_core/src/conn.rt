@@ -1,17 +1,17 @@
 // One connection's state.
 ghost use Rattle.std.specs.Prelude.{◌≡◌, ◌+◌, ◌<◌, ◌≤◌, ◌^◌, ◌++◌, [], length, IfOk, if◌then◌else◌};
 ghost use Rattle.ep_model.specs.Statuses.{success};
-ghost use Rattle.mcbp_ops.specs.Text.{is_silent, status_text};
+ghost use Rattle.mcbp_ops.specs.Text.{is_silent, status_text, value_text};
 ghost use Rattle.conn_core.specs.Hello.{granted};
 ghost use Rattle.mcbp_frame.specs.Frames.{frame_data};
-ghost use Rattle.conn_core.specs.Acts.{act_data, act_of, own_text, features_after, value_text, IsReady};
+ghost use Rattle.conn_core.specs.Acts.{act_data, act_of, own_text, features_after, IsReady};
 
 use crate::act::Act;
 use crate::hello::{Features, asks_seqno};
 use ep_model::limits::VALUE_ROOM;
 use ep_model::{NoMemory, Out, status};
-use mcbp_frame::{Frame, HEADER, put_response};
-use mcbp_ops::{Op, is_silent, read_call};
+use mcbp_frame::{Frame, HEADER};
+use mcbp_ops::{Op, is_silent, put_status, put_value, read_call};
 use std::alloc::Global;
 
 /// How many bytes of answers a connection holds.
@@ -98,35 +98,6 @@ impl Conn {
             }
         }
     }
-}
-
-/// Appends the response to a frame that is a status alone, in constant time.
-pub fn put_status(out: &mut Out, frame: &Frame, status: u16)
-    requires { HEADER ≤ out.old.spare }
-    ensures bytes { out.new.bytes ≡ out.old.bytes ++ status_text (frame_data frame.now) status }
-    ensures room { out.new.spare + length out.new.bytes ≡ out.old.spare + length out.old.bytes }
-{
-    put_response(out, frame.opcode, status, frame.opaque, 0, 0, &[], &[], &[]);
-}
-
-// Appends a response that is a value alone.
-fn put_value(out: &mut Out, frame: &Frame, value: &[u8])
-    requires spare { HEADER + length value.now ≤ out.old.spare }
-    requires fits { length value.now < 2 ^ 32 }
-    ensures bytes { out.new.bytes ≡ out.old.bytes ++ value_text (frame_data frame.now) value.now }
-    ensures room { out.new.spare + length out.new.bytes ≡ out.old.spare + length out.old.bytes }
-{
-    put_response(
-        out,
-        frame.opcode,
-        status::SUCCESS,
-        frame.opaque,
-        0,
-        0,
-        &[],
-        &[],
-        value,
-    );
 }
 
 // Appends the answer to a Hello: the codes that it was granted.

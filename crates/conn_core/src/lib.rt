@@ -6,7 +6,7 @@ mod conn;
 mod hello;
 
 pub use act::{Act, ActData};
-pub use conn::{Conn, OUT_ROOM, put_status};
+pub use conn::{Conn, OUT_ROOM};
 pub use hello::{Features, asks_seqno};
 
 #[cfg(test)]

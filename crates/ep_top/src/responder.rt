@@ -9,11 +9,11 @@ ghost use Rattle.mcbp_ops.specs.Text.{reply_text};
 ghost use Rattle.ep_top.specs.AnswersCall.{AnswersCall};
 ghost use Rattle.ep_top.specs.Stand.{Writes, LosesSome};
 
-use conn_core::{Act, Conn, put_status};
+use conn_core::{Act, Conn};
 use ep_edge::{Clock, Put, Sink};
 use ep_model::{Call, Event, NoMemory, Plain, Reply, status};
 use mcbp_frame::Frame;
-use mcbp_ops::{reply_text, reply_text_fits};
+use mcbp_ops::{put_status, reply_text, reply_text_fits};
 use std::alloc::Global;
 use vb_world::History;
 

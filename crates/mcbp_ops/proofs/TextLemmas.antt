@@ -43,9 +43,9 @@ success_fits f reply value seqno_feature Failovers = fits f success 0 [] [] valu
 success_fits f reply value seqno_feature GetState = fits f success 0 [] [] value value (omega arith) (omega arith) (omega arith)
 success_fits f reply value seqno_feature SetState = fits f success 0 [] [] [] value (omega arith) (omega arith) (omega arith)
 success_fits f reply value seqno_feature Stat = fits f success 0 [] [] [] value (omega arith) (omega arith) (omega arith)
-success_fits f reply value seqno_feature Hello = fits f success 0 [] [] [] value (omega arith) (omega arith) (omega arith)
+success_fits f reply value seqno_feature Hello = fits f success 0 [] [] value value (omega arith) (omega arith) (omega arith)
 success_fits f reply value seqno_feature Noop = fits f success 0 [] [] [] value (omega arith) (omega arith) (omega arith)
-success_fits f reply value seqno_feature Version = fits f success 0 [] [] [] value (omega arith) (omega arith) (omega arith)
+success_fits f reply value seqno_feature Version = fits f success 0 [] [] value value (omega arith) (omega arith) (omega arith)
 success_fits f reply value seqno_feature Quit = fits f success 0 [] [] [] value (omega arith) (omega arith) (omega arith)
 
 status_fits : (f : FrameData) (status : ℕ) (value : List ℕ) → length (status_text f status) ≤ 40 + f.key_len + length value

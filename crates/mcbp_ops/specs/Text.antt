@@ -35,6 +35,14 @@ mutation_extras reply seqno_feature = if seqno_feature then big_bytes 8 reply.uu
 abbrev pub answer_text : FrameData → ℕ → ℕ → List ℕ → List ℕ → List ℕ → List ℕ
 answer_text f status cas extras key value = response f.opcode status f.opaque cas 0 extras key value
 
+-- a response that is a status alone
+abbrev pub status_text : FrameData → ℕ → List ℕ
+status_text f status = answer_text f status 0 [] [] []
+
+-- a success that shows a value alone
+abbrev pub value_text : FrameData → List ℕ → List ℕ
+value_text f value = answer_text f success 0 [] [] value
+
 -- a success: which of the reply and of the value it shows
 abbrev pub success_text : FrameData → Reply → List ℕ → Bool → Kind → List ℕ
 success_text f reply value seqno_feature (Get false) = answer_text f success reply.cas (big_bytes 4 reply.flags) [] value
@@ -45,19 +53,15 @@ success_text f reply value seqno_feature (Store kind) = answer_text f success re
 success_text f reply value seqno_feature (Join front) = answer_text f success reply.cas (mutation_extras reply seqno_feature) [] []
 success_text f reply value seqno_feature Delete = answer_text f success reply.cas (mutation_extras reply seqno_feature) [] []
 success_text f reply value seqno_feature (Count down) = answer_text f success reply.cas (mutation_extras reply seqno_feature) [] value
-success_text f reply value seqno_feature Observe = answer_text f success 0 [] [] value
-success_text f reply value seqno_feature Failovers = answer_text f success 0 [] [] value
-success_text f reply value seqno_feature GetState = answer_text f success 0 [] [] value
-success_text f reply value seqno_feature SetState = answer_text f success 0 [] [] []
-success_text f reply value seqno_feature Stat = answer_text f success 0 [] [] []
-success_text f reply value seqno_feature Hello = answer_text f success 0 [] [] []
-success_text f reply value seqno_feature Noop = answer_text f success 0 [] [] []
-success_text f reply value seqno_feature Version = answer_text f success 0 [] [] []
-success_text f reply value seqno_feature Quit = answer_text f success 0 [] [] []
-
--- a response that is a status alone
-abbrev pub status_text : FrameData → ℕ → List ℕ
-status_text f status = answer_text f status 0 [] [] []
+success_text f reply value seqno_feature Observe = value_text f value
+success_text f reply value seqno_feature Failovers = value_text f value
+success_text f reply value seqno_feature GetState = value_text f value
+success_text f reply value seqno_feature Hello = value_text f value
+success_text f reply value seqno_feature Version = value_text f value
+success_text f reply value seqno_feature SetState = status_text f success
+success_text f reply value seqno_feature Stat = status_text f success
+success_text f reply value seqno_feature Noop = status_text f success
+success_text f reply value seqno_feature Quit = status_text f success
 
 abbrev pub kind_text : FrameData → Reply → List ℕ → Bool → Result Kind Bad → List ℕ
 kind_text f reply value seqno_feature (Ok kind) = success_text f reply value seqno_feature kind

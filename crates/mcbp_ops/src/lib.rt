@@ -16,7 +16,7 @@ pub use laws::{
 };
 pub use op::{Bad, Op, OpData};
 pub use read::read_call;
-pub use text::{is_silent, reply_text};
+pub use text::{is_silent, put_status, put_value, reply_text};
 
 #[cfg(test)]
 mod tests;

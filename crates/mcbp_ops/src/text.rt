@@ -2,7 +2,7 @@
 ghost use Rattle.std.specs.Prelude.{◌≡◌, ◌+◌, ◌<◌, ◌≤◌, ◌^◌, ◌++◌, [], length};
 ghost use Rattle.byteorder.specs.Endian.{big_bytes};
 ghost use Rattle.mcbp_frame.specs.Frames.{frame_data};
-ghost use Rattle.mcbp_ops.specs.Text.{is_silent, answer_text, mutation_extras, success_text, reply_text};
+ghost use Rattle.mcbp_ops.specs.Text.{is_silent, answer_text, mutation_extras, status_text, value_text, success_text, reply_text};
 
 use crate::kind::{Kind, kind_of};
 use crate::opcodes::*;
@@ -10,7 +10,7 @@ use crate::parts::key_of;
 use byteorder::{BigEndian, ByteOrder};
 use ep_model::status::{KEY_NOT_FOUND, SUCCESS};
 use ep_model::{Out, Reply};
-use mcbp_frame::{Frame, put_response};
+use mcbp_frame::{Frame, HEADER, put_response};
 
 /// Whether a reply of this status isn't written, since its opcode is quiet. A quiet Get, or Get-and-touch, hides that
 /// nothing was found, and another quiet form that all went well. A quiet Quit hides each reply, so ask this only of a
@@ -52,6 +52,24 @@ fn put(out: &mut Out, frame: &Frame, status: u16, cas: u64, extras: &[u8], key: 
         key,
         value,
     );
+}
+
+/// Appends the response to a frame that is a status alone, in constant time.
+pub fn put_status(out: &mut Out, frame: &Frame, status: u16)
+    requires { HEADER ≤ out.old.spare }
+    ensures bytes { out.new.bytes ≡ out.old.bytes ++ status_text (frame_data frame.now) status }
+    ensures room { out.new.spare + length out.new.bytes ≡ out.old.spare + length out.old.bytes }
+{
+    put(out, frame, status, 0, &[], &[], &[]);
+}
+
+/// Appends the response to a frame that is a success with a value alone. Its cost is linear in the value's length.
+pub fn put_value(out: &mut Out, frame: &Frame, value: &[u8])
+    requires { HEADER + length value.now ≤ out.old.spare }
+    ensures bytes { out.new.bytes ≡ out.old.bytes ++ value_text (frame_data frame.now) value.now }
+    ensures room { out.new.spare + length out.new.bytes ≡ out.old.spare + length out.old.bytes }
+{
+    put(out, frame, SUCCESS, 0, &[], &[], value);
 }
 
 // The uuid and the sequence number of a mutation.
@@ -103,10 +121,10 @@ fn put_success(
             put_mutation(out, frame, reply, &[], seqno_feature)
         }
         Kind::Count { .. } => put_mutation(out, frame, reply, value, seqno_feature),
-        Kind::Observe | Kind::Failovers | Kind::GetState => {
+        Kind::Observe | Kind::Failovers | Kind::GetState | Kind::Hello | Kind::Version => {
             put(out, frame, SUCCESS, 0, &[], &[], value)
         }
-        Kind::SetState | Kind::Stat | Kind::Hello | Kind::Noop | Kind::Version | Kind::Quit => {
+        Kind::SetState | Kind::Stat | Kind::Noop | Kind::Quit => {
             put(out, frame, SUCCESS, 0, &[], &[], &[])
         }
     }

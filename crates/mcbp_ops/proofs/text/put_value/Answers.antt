@@ -1,0 +1,9 @@
+use Rattle.std.proofs.Common.{[], arith}
+use Rattle.ep_model.specs.Statuses.{success}
+use Rattle.mcbp_frame.specs.Frames.{frame_data}
+use Rattle.mcbp_ops.proofs.TextLemmas.{answer_length}
+use Rattle.mcbp_ops.proofs.text.put_value.Goals as goal
+
+pub put-requires-clause-spare : goal.put-requires-clause-spare
+put-requires-clause-spare c =
+    omega (arith, c.requires, answer_length (frame_data c.args.frame.now) success 0 [] [] c.args.value.now)
