@@ -1,5 +1,5 @@
 -- What a connection leaves to others it doesn't answer.
-use Rattle.std.proofs.Common.{◌≡◌, ℕ, Bool, true, false, nat_lt, if◌then◌else◌, List, [], Result, Ok, Err, refl}
+use Rattle.std.proofs.Common.{◌≡◌, ℕ, ◌<◌, Bool, true, false, nat_lt, if◌then◌else◌, List, [], Result, Ok, Err, refl, rules, arith}
 use Rattle.ep_model.specs.declared.data.CallData.{CallData}
 use Rattle.ep_model.specs.Statuses.{not_my_vbucket}
 use Rattle.mcbp_frame.specs.declared.frame.FrameData.{FrameData}
@@ -53,3 +53,16 @@ engine_features_op vbuckets f features (Ok ops.Quit) call e = refl
 -- a call changes no feature
 pub engine_features : (vbuckets : ℕ) (f : FrameData) (features : Features) (call : CallData) → Engine call ≡ act_of vbuckets f → features_after features f ≡ features
 engine_features vbuckets f features call e = engine_features_op vbuckets f features (op_of f) call e
+
+engine_vbucket_op : (vbuckets : ℕ) (f : FrameData) (op : Result OpData Bad) (call : CallData) → Engine call ≡ act_of_op vbuckets f op → nat_lt f.vbucket vbuckets ≡ true
+engine_vbucket_op vbuckets f (Err bad) call e = cc
+engine_vbucket_op vbuckets f (Ok (ops.Engine found)) call e = elim (nat_lt f.vbucket vbuckets) as (λ b. Engine call ≡ (if b then Engine found else Answered) → b ≡ true) [ true ↦ λ e. refl | false ↦ λ e. cc ] e
+engine_vbucket_op vbuckets f (Ok ops.Noop) call e = cc
+engine_vbucket_op vbuckets f (Ok ops.Version) call e = cc
+engine_vbucket_op vbuckets f (Ok (ops.Stat group)) call e = cc
+engine_vbucket_op vbuckets f (Ok (ops.Hello asked)) call e = cc
+engine_vbucket_op vbuckets f (Ok ops.Quit) call e = cc
+
+-- a call that goes on has one of so many vBuckets
+pub engine_vbucket : (vbuckets : ℕ) (f : FrameData) (call : CallData) → Engine call ≡ act_of vbuckets f → f.vbucket < vbuckets
+engine_vbucket vbuckets f call e = let lt = engine_vbucket_op vbuckets f (op_of f) call e in search (rules, lt)

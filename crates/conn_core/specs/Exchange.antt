@@ -1,5 +1,5 @@
 -- Frames that a connection served with their answers: the event of each, the bytes that answer it, and what a list of
--- them comes to. The number of vBuckets is an argument.
+-- them comes to. The number of vBuckets and the connection's caller are arguments.
 use Rattle.std.specs.Prelude.{◌≡◌, ℕ, ◌+◌, Bool, true, false, List, [], ◌∷◌, ◌++◌, Option, IfSome}
 use Rattle.ep_model.specs.declared.call.Reply.{Reply}
 use Rattle.ep_model.specs.declared.data.EventData.{EventData}
@@ -30,12 +30,12 @@ is_quit Quit = true
 is_quit (Engine call) = false
 is_quit (Stat group) = false
 
--- the one event of a call on the vBucket, of caller 0; none of another frame
-abbrev pub act_event : ActData → ℕ → Reply → List ℕ → List EventData
-act_event Answered now reply value = []
-act_event Quit now reply value = []
-act_event (Engine call) now reply value = Called 0 call now reply value ∷ []
-act_event (Stat group) now reply value = []
+-- the one event of a caller's call, beside its vBucket; none of another frame
+abbrev pub act_event : ℕ → ℕ → ActData → ℕ → Reply → List ℕ → List (ℕ × EventData)
+act_event caller vbucket Answered now reply value = []
+act_event caller vbucket Quit now reply value = []
+act_event caller vbucket (Engine call) now reply value = (vbucket, Called caller call now reply value) ∷ []
+act_event caller vbucket (Stat group) now reply value = []
 
 -- what is written behind the connection's own answer: a call's reply, and that a group of statistics isn't known
 abbrev pub act_text : Features → FrameData → ActData → Reply → List ℕ → List ℕ
@@ -44,14 +44,14 @@ act_text features f Quit reply value = []
 act_text features f (Engine call) reply value = reply_text f reply value features.seqno
 act_text features f (Stat group) reply value = status_text f key_not_found
 
-abbrev pub event_in : ℕ → FrameData → ℕ → Reply → List ℕ → List EventData
-event_in vbuckets f now reply value = act_event (act_of vbuckets f) now reply value
+abbrev pub event_in : ℕ → ℕ → FrameData → ℕ → Reply → List ℕ → List (ℕ × EventData)
+event_in vbuckets caller f now reply value = act_event caller f.vbucket (act_of vbuckets f) now reply value
 
 abbrev pub text_in : ℕ → Features → FrameData → Reply → List ℕ → List ℕ
 text_in vbuckets features f reply value = own_text vbuckets f ++ act_text features f (act_of vbuckets f) reply value
 
-abbrev pub event_of : ℕ → Exchange → List EventData
-event_of vbuckets x = event_in vbuckets (frame_of x) x.now x.reply x.value
+abbrev pub event_of : ℕ → ℕ → Exchange → List (ℕ × EventData)
+event_of vbuckets caller x = event_in vbuckets caller (frame_of x) x.now x.reply x.value
 
 abbrev pub text_of : ℕ → Features → Exchange → List ℕ
 text_of vbuckets features x = text_in vbuckets features (frame_of x) x.reply x.value

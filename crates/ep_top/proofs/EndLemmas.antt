@@ -34,7 +34,7 @@ divides_after (frame ∷ frames) {text} {later} {rest} each d =
     subst (λ (t : List ℕ). Divides t (frame ∷ (frames ++ later)) rest) (sym (append_assoc frame (concat frames) text)) (divides-cons frame each.0 (divides_after frames each.1 d))
 
 -- once it opened, the history is told by what was served, whatever the end
-noted_from : (end : End) (history : List EventData) (served : List Exchange) → end ≢ ends.BadWords → history ≡ Opened ∷ flat_map event_of served → IsNoted end history served
+noted_from : (end : End) (history : List (ℕ × EventData)) (served : List Exchange) → end ≢ ends.BadWords → history ≡ (0, Opened) ∷ flat_map event_of served → IsNoted end history served
 noted_from ends.BadWords history served not e = absurd (not refl)
 noted_from ends.NoMemory history served not e = inr e
 noted_from (ends.BadMagic at) history served not e = e
@@ -55,7 +55,7 @@ some_frame text frames rest d begins none =
 -- all of it, from what was served and written in the end, and from the division of what wasn't served
 session_from : (before now : Outside) (end : End) (history : List (ℕ × EventData)) (taken rest pending : List ℕ) (moment : ℕ → Option ℕ) (features : Features) (quit : Bool) (extra : ℕ) (unserved : List (List ℕ)) (left : List ℕ)
     → TakesBytes before.left now.left taken
-    → (p : Advances (begin before taken) (record { rest = rest; history = events_of 0 history; pending = pending; held = now.held; moment = moment; features = features; quit = quit }))
+    → (p : Advances (begin before taken) (record { rest = rest; history = history; pending = pending; held = now.held; moment = moment; features = features; quit = quit }))
     → Divides taken (bytes_of p.served ++ unserved) left → (is_cut end ≡ false → quit ≡ false → unserved ≡ [])
     → extra ≤ 1 → (is_cut end ≡ false → extra ≡ 0) → (extra ≢ 0 → unserved ≢ []) → (end ≡ ends.NoMemory → unserved ≢ []) → ((k : ℕ) → now.moment k ≡ moment (extra + k)) → (end ≢ ends.WriteFault → pending ≡ [])
     → IsLegalHistory history → end ≢ ends.BadWords → Comes before now taken left quit end
@@ -82,10 +82,10 @@ session_from before now end history taken rest pending moment features quit extr
   cut_off = cut_off;
   asked = λ k. asked k ∙ p.asked (extra + k);
   wanting = λ is. inr (wanting is);
-  unopened = λ none. absurd (let opened = p.noted in let bare = ap (events_of 0) none in cc);
+  unopened = λ none. absurd (let opened = p.noted in cc);
   events = events_of 0 history;
   only = legal.only;
-  noted = noted_from end (events_of 0 history) p.served not p.noted;
+  noted = noted_from end history p.served not p.noted;
   legal = legal.legal;
   wrote = p.wrote;
   texts = p.texts;
@@ -143,7 +143,7 @@ or_true_not false b e p q = cc
 -- the same session, whichever way it ended: what wasn't served is divided too
 session_of : (before now : Outside) (end : End) (history : List (ℕ × EventData)) (taken rest pending : List ℕ) (moment : ℕ → Option ℕ) (features : Features) (quit : Bool) (extra : ℕ)
     → TakesBytes before.left now.left taken
-    → (p : Advances (begin before taken) (record { rest = rest; history = events_of 0 history; pending = pending; held = now.held; moment = moment; features = features; quit = quit }))
+    → (p : Advances (begin before taken) (record { rest = rest; history = history; pending = pending; held = now.held; moment = moment; features = features; quit = quit }))
     → extra ≤ 1 → (is_cut end ≡ false → extra ≡ 0) → (extra ≢ 0 → BeginsWithFrame rest) → (end ≡ ends.NoMemory → BeginsWithFrame rest) → ((k : ℕ) → now.moment k ≡ moment (extra + k)) → (end ≢ ends.WriteFault → pending ≡ [])
     → IsLegalHistory history → end ≢ ends.BadWords → Comes before now taken rest quit end
     → ReadsInTurn before now taken p.served p.written → (end ≢ ends.ReadFault → now.read_faults ≡ before.read_faults) → (end ≢ ends.WriteFault → now.write_faults ≡ before.write_faults)
@@ -206,7 +206,7 @@ session_written : (before mid now : Outside) (end final : End) (responder : Resp
     → now.left ≡ mid.left → IsReadNoMore mid now → now.has_ended ≡ mid.has_ended → now.read_faults ≡ mid.read_faults → ((k : ℕ) → now.moment k ≡ mid.moment k)
     → IsSession before now final responder.history
 session_written before mid now end final responder s w left earlier ended read moment =
-    let here : Stand = record { rest = s.rest; history = events_of 0 responder.history; pending = s.pending; held = mid.held; moment = s.moment; features = responder.conn.features; quit = is_quit_end end } in
+    let here : Stand = record { rest = s.rest; history = responder.history; pending = s.pending; held = mid.held; moment = s.moment; features = responder.conn.features; quit = is_quit_end end } in
     let pending = subst (λ (l : List ℕ). Writes l [] mid.held now.held) (sym (s.kept w.able)) w.writes in
     subst (λ (e : End). IsSession before now e responder.history) (sym w.same)
     (session_of before now end responder.history s.taken s.rest [] s.moment responder.conn.features (is_quit_end end) s.extra
@@ -224,7 +224,7 @@ session_lost : (before mid now : Outside) (end final : End) (responder : Respond
     → now.left ≡ mid.left → IsReadNoMore mid now → now.read_faults ≡ mid.read_faults → ((k : ℕ) → now.moment k ≡ mid.moment k)
     → IsSession before now final responder.history
 session_lost before mid now end final responder s w left earlier read moment =
-    let here : Stand = record { rest = s.rest; history = events_of 0 responder.history; pending = s.pending; held = mid.held; moment = s.moment; features = responder.conn.features; quit = is_quit_end end } in
+    let here : Stand = record { rest = s.rest; history = responder.history; pending = s.pending; held = mid.held; moment = s.moment; features = responder.conn.features; quit = is_quit_end end } in
     let pending = subst (λ (l : List ℕ). Writes l w.lost mid.held now.held) (sym (s.kept w.able)) w.writes in
     subst (λ (e : End). IsSession before now e responder.history) (sym w.fault)
     (session_of before now ends.WriteFault responder.history s.taken s.rest w.lost s.moment responder.conn.features (is_quit_end end) s.extra

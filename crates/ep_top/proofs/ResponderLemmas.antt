@@ -1,5 +1,5 @@
 -- A responder goes on by one event, and by one answer.
-use Rattle.std.proofs.Common.{◌≡◌, ℕ, ◌+◌, Bool, true, false, List, [], ◌∷◌, ◌++◌, length, refl, sym, ap, ◌∙◌, subst, Option, IfSome, append_assoc, add-zero}
+use Rattle.std.proofs.Common.{◌≡◌, ℕ, ◌+◌, ◌<◌, Bool, true, false, List, [], ◌∷◌, ◌++◌, length, refl, sym, ap, ◌∙◌, subst, Option, IfSome, append_assoc, add-zero, arith}
 use Rattle.std.proofs.lemmas.List.{append-nil}
 use Rattle.std.specs.Prelude.{Some, Result, Ok, Err, OnErr}
 use Rattle.ep_model.specs.declared.call.Reply.{Reply}
@@ -25,11 +25,11 @@ use Rattle.conn_core.specs.declared.hello.Features.{Features}
 use Rattle.ep_model.specs.Limits.{value_room}
 use Rattle.conn_core.specs.Conns.{IsNew, out_room}
 use Rattle.conn_core.specs.Acts.{own_text, features_after}
-use Rattle.conn_core.proofs.ActLemmas.{engine_features}
+use Rattle.conn_core.proofs.ActLemmas.{engine_features, engine_vbucket}
 use Rattle.ep_top.specs.declared.responder.Responder.{Responder}
 use Rattle.ep_top.specs.AnswersCall.{AnswersCall}
 use Rattle.conn_core.specs.Exchange.{act_event, act_text, is_quit}
-use Rattle.ep_top.specs.Exchange.{vbuckets, act_in}
+use Rattle.ep_top.specs.Exchange.{vbuckets, only_caller, act_in}
 use Rattle.ep_top.specs.Responder.{session_config, session_front, IsLegalHistory, IsSound, Responds}
 
 -- a session's documents are known
@@ -91,6 +91,9 @@ sound_after_call old new sorted frame call now s room value c = record {
   value = c.value_room ∙ ap (λ (o : OutData). o.spare + length o.bytes) value ∙ s.value;
 }
 
+only_vbucket : (vbucket : ℕ) → vbucket < vbuckets → 0 ≡ vbucket
+only_vbucket vbucket below = omega arith
+
 -- a call was answered
 pub answered_call : (f : FrameData) (m next : ℕ → Option ℕ) (old new : Responder) (sorted : Conn) (call : CallData) (now : ℕ)
     → IfSome (m 0) (λ t. now ≡ t) → ((k : ℕ) → next k ≡ m (1 + k)) → acts.Engine call ≡ act_in f
@@ -103,8 +106,8 @@ answered_call f m next old new sorted call now told asked act text features c = 
   told = told;
   asked = asked;
   noted =
-      events_after old.history new.history (Called 0 call now c.reply c.value) c.noted
-      ∙ ap (λ (a : ActData). events_of 0 old.history ++ act_event a now c.reply c.value) act;
+      c.noted ∙ ap (λ (vbucket : ℕ). old.history ++ (vbucket, Called 0 call now c.reply c.value) ∷ []) (only_vbucket f.vbucket (engine_vbucket vbuckets f call act))
+      ∙ ap (λ (a : ActData). old.history ++ act_event only_caller f.vbucket a now c.reply c.value) act;
   text =
       c.text ∙ ap (λ l. l ++ reply_text f c.reply c.value sorted.features.seqno) text
       ∙ append_assoc old.conn.out.bytes (own_text vbuckets f) (reply_text f c.reply c.value sorted.features.seqno)
@@ -121,7 +124,7 @@ no_reply = record { status = 0; cas = 0; flags = 0; uuid = 0; seqno = 0 }
 -- a frame was answered that is no call: nothing was noted, and behind the connection's own answer stands `text`
 pub answered_frame : (f : FrameData) (m next : ℕ → Option ℕ) (old new : Responder) (sorted : Conn) (act : ActData) (text : List ℕ) (quit : Bool) (now : ℕ)
     → IfSome (m 0) (λ t. now ≡ t) → ((k : ℕ) → next k ≡ m (1 + k)) → act ≡ act_in f
-    → ((reply : Reply) → act_event act now reply [] ≡ []) → ((reply : Reply) → act_text old.conn.features f act reply [] ≡ text) → is_quit act ≡ quit
+    → ((reply : Reply) → act_event only_caller f.vbucket act now reply [] ≡ []) → ((reply : Reply) → act_text old.conn.features f act reply [] ≡ text) → is_quit act ≡ quit
     → sorted.out.bytes ≡ old.conn.out.bytes ++ own_text vbuckets f → sorted.features ≡ features_after old.conn.features f
     → new.history ≡ old.history → new.conn.out.bytes ≡ sorted.out.bytes ++ text → new.conn.features ≡ sorted.features → Responds f m next quit old new
 answered_frame f m next old new sorted act text quit now told asked is event shown quits own features history bytes kept = record {
@@ -131,8 +134,8 @@ answered_frame f m next old new sorted act text quit now told asked is event sho
   told = told;
   asked = asked;
   noted =
-      ap (events_of 0) history ∙ sym (append-nil (events_of 0 old.history)) ∙ ap (λ l. events_of 0 old.history ++ l) (sym (event no_reply))
-      ∙ ap (λ (a : ActData). events_of 0 old.history ++ act_event a now no_reply []) is;
+      history ∙ sym (append-nil old.history) ∙ ap (λ l. old.history ++ l) (sym (event no_reply))
+      ∙ ap (λ (a : ActData). old.history ++ act_event only_caller f.vbucket a now no_reply []) is;
   text =
       bytes ∙ ap (λ l. l ++ text) own ∙ append_assoc old.conn.out.bytes (own_text vbuckets f) text
       ∙ ap (λ l. old.conn.out.bytes ++ (own_text vbuckets f ++ l)) (sym (shown no_reply) ∙ ap (λ (a : ActData). act_text old.conn.features f a no_reply []) is);

@@ -8,7 +8,6 @@ use Rattle.ep_edge.specs.declared.source.Got.TheVariants as got
 use Rattle.mcbp_frame.specs.declared.feeder.FeederData.{FeederData}
 use Rattle.mcbp_frame.specs.Division.{IsPartial}
 use Rattle.conn_core.specs.declared.hello.Features.{Features}
-use Rattle.vb_world.specs.History.{events_of}
 use Rattle.ep_top.specs.declared.end.End.{End}
 use Rattle.ep_top.specs.declared.end.End.TheVariants as ends
 use Rattle.ep_top.specs.declared.responder.Responder.{Responder}
@@ -275,7 +274,7 @@ progress_none before rest responder none fresh sound = record {
     served = [];
     written = [];
     cut = subst (λ (l : List ℕ). HasCut [] [] l) (sym none) stream_divides.begun;
-    noted = ap (events_of 0) fresh.history;
+    noted = fresh.history;
     texts = fresh.answers;
     features = ap (λ (b : Bool). let f : Features = record { seqno = b } in f) fresh.features;
     quits = refl;
@@ -294,4 +293,4 @@ progress_none before rest responder none fresh sound = record {
 
 -- a session that stopped has opened
 pub stops_opened : (before now : Outside) (end : End) (responder : Responder) → Stops before now end responder → responder.history ≡ [] → ⊥
-stops_opened before now end responder s none = let opened = s.serves.noted in let bare = ap (events_of 0) none in cc
+stops_opened before now end responder s none = let opened = s.serves.noted in cc

@@ -16,7 +16,6 @@ use Rattle.conn_core.specs.declared.hello.Features.{Features}
 use Rattle.conn_core.specs.Acts.{features_after}
 use Rattle.mcbp_frame.specs.Frames.{IsFrame, frame_at, frame_data, frame_length}
 use Rattle.mcbp_frame.proofs.DivisionLemmas.{first_whole, frame_length_front}
-use Rattle.vb_world.specs.History.{events_of}
 use Rattle.ep_top.specs.declared.end.End.{End}
 use Rattle.ep_top.specs.declared.end.End.TheVariants as ends
 use Rattle.ep_top.specs.declared.responder.Responder.{Responder}
@@ -147,7 +146,7 @@ serves_answer bytes rest more at old new held m later quit frame split a = recor
   served = (record { bytes = bytes; now = a.now; reply = a.reply; value = a.value }) ∷ [];
   written = [];
   cut = record { whole = split ∙ ap (λ l. l ++ more) (sym (append-nil bytes)); each = (frame, tt) };
-  noted = a.noted ∙ ap (λ l. events_of 0 old.history ++ l) (sym (append-nil _));
+  noted = a.noted ∙ ap (λ l. old.history ++ l) (sym (append-nil _));
   texts = a.text ∙ ap (λ l. old.conn.out.bytes ++ l) (sym (append-nil _));
   features = a.features;
   quits = (refl, sym a.quits);
@@ -180,7 +179,7 @@ advances_writes rest old new held now m k w = record {
   served = [];
   written = w.written;
   cut = record { whole = refl; each = tt };
-  noted = ap (events_of 0) k.history ∙ sym (append-nil (events_of 0 old.history));
+  noted = k.history ∙ sym (append-nil old.history);
   texts = sym w.parts ∙ sym (append-nil old.conn.out.bytes);
   features = k.features;
   quits = refl;
@@ -204,7 +203,7 @@ breaks_loss start rest old new held now m at f0 f1 p k loss why =
         served = q.served;
         written = q.written;
         cut = q.cut;
-        noted = ap (events_of 0) k.history ∙ q.noted;
+        noted = k.history ∙ q.noted;
         texts = q.texts;
         features = k.features ∙ q.features;
         quits = q.quits;
@@ -234,7 +233,7 @@ breaks_memory_at rest more old new left held now m later at f0 f1 quiet begins w
     served = [];
     written = w.written;
     cut = record { whole = refl; each = tt };
-    noted = ap (events_of 0) history ∙ sym (append-nil (events_of 0 old.history));
+    noted = history ∙ sym (append-nil old.history);
     texts = ap (λ l. w.written ++ l) same ∙ sym w.parts ∙ sym (append-nil old.conn.out.bytes);
     features = features;
     quits = refl;
@@ -331,7 +330,7 @@ serves_none held later n old new sink now m e same history features w = record {
   served = [];
   written = w.written;
   cut = record { whole = sym (ap (λ (x : FeederData). x.rest) (e ∙ same)); each = tt };
-  noted = ap (events_of 0) history ∙ sym (append-nil (events_of 0 old.history));
+  noted = history ∙ sym (append-nil old.history);
   texts = sym w.parts ∙ sym (append-nil old.conn.out.bytes);
   features = features;
   quits = refl;

@@ -1,4 +1,4 @@
--- The frames of a session, which has one vBucket.
+-- The frames of a session, which has one vBucket and one caller.
 use Rattle.std.specs.Prelude.{ℕ, Bool, List}
 use Rattle.ep_model.specs.declared.call.Reply.{Reply}
 use Rattle.ep_model.specs.declared.data.EventData.{EventData}
@@ -13,18 +13,22 @@ use Rattle.conn_core.specs.Exchange as exchanges
 abbrev pub vbuckets : ℕ
 vbuckets = 1
 
+-- whose calls it serves
+abbrev pub only_caller : ℕ
+only_caller = 0
+
 -- what a frame asks of a session
 abbrev pub act_in : FrameData → ActData
 act_in f = act_of vbuckets f
 
-abbrev pub event_in : FrameData → ℕ → Reply → List ℕ → List EventData
-event_in f now reply value = exchanges.event_in vbuckets f now reply value
+abbrev pub event_in : FrameData → ℕ → Reply → List ℕ → List (ℕ × EventData)
+event_in f now reply value = exchanges.event_in vbuckets only_caller f now reply value
 
 abbrev pub text_in : Features → FrameData → Reply → List ℕ → List ℕ
 text_in features f reply value = exchanges.text_in vbuckets features f reply value
 
-abbrev pub event_of : Exchange → List EventData
-event_of x = exchanges.event_of vbuckets x
+abbrev pub event_of : Exchange → List (ℕ × EventData)
+event_of x = exchanges.event_of vbuckets only_caller x
 
 abbrev pub text_of : Features → Exchange → List ℕ
 text_of features x = exchanges.text_of vbuckets features x

@@ -53,7 +53,7 @@ pub record Responds (frame : FrameData) (before next : ℕ → Option ℕ) (quit
   pub value : List ℕ
   pub told : IfSome (before 0) (λ m. now ≡ m)
   pub asked : (k : ℕ) → next k ≡ before (1 + k)
-  pub noted : events_of 0 new.history ≡ events_of 0 old.history ++ event_in frame now reply value
+  pub noted : new.history ≡ old.history ++ event_in frame now reply value
   pub text : new.conn.out.bytes ≡ old.conn.out.bytes ++ text_in old.conn.features frame reply value
   pub features : new.conn.features ≡ features_after old.conn.features frame
   pub quits : is_quit (act_in frame) ≡ quit

@@ -10,7 +10,7 @@ use Rattle.mcbp_frame.specs.Division.{Divides, HasBadMagic, IsTooLong, IsPartial
 use Rattle.mcbp_frame.specs.declared.feeder.FeederData.{FeederData}
 use Rattle.mcbp_frame.specs.Stream.{HasCut}
 use Rattle.conn_core.specs.declared.hello.Features.{Features}
-use Rattle.vb_world.specs.History.{events_of, under}
+use Rattle.vb_world.specs.History.{under}
 use Rattle.ep_top.specs.declared.end.End.{End}
 use Rattle.ep_top.specs.declared.end.End.TheVariants as ends
 use Rattle.ep_top.specs.declared.responder.Responder.{Responder}
@@ -66,18 +66,18 @@ Comes before now taken rest quit ends.WriteFault = RoseByOne before.write_faults
 Comes before now taken rest quit ends.Quit = quit ≡ true
 Comes before now taken rest quit ends.Closed = HasEnded now taken × (rest ≡ []) × (quit ≡ false)
 
--- The history: it opens, and then has the one event of each frame that is a call. Before it opens there is none.
-abbrev pub IsNoted : End → List EventData → List Exchange → Type 0
+-- The history: vBucket 0 opens, and then each frame that is a call has its one event. Before that there is none.
+abbrev pub IsNoted : End → List (ℕ × EventData) → List Exchange → Type 0
 IsNoted ends.BadWords history served = (history ≡ []) × (served ≡ [])
-IsNoted ends.NoMemory history served = ((history ≡ []) × (served ≡ [])) ⊎ (history ≡ Opened ∷ flat_map event_of served)
-IsNoted (ends.BadMagic at) history served = history ≡ Opened ∷ flat_map event_of served
-IsNoted (ends.TooLong at) history served = history ≡ Opened ∷ flat_map event_of served
-IsNoted (ends.Torn at) history served = history ≡ Opened ∷ flat_map event_of served
-IsNoted ends.Limit history served = history ≡ Opened ∷ flat_map event_of served
-IsNoted ends.ReadFault history served = history ≡ Opened ∷ flat_map event_of served
-IsNoted ends.WriteFault history served = history ≡ Opened ∷ flat_map event_of served
-IsNoted ends.Quit history served = history ≡ Opened ∷ flat_map event_of served
-IsNoted ends.Closed history served = history ≡ Opened ∷ flat_map event_of served
+IsNoted ends.NoMemory history served = ((history ≡ []) × (served ≡ [])) ⊎ (history ≡ (0, Opened) ∷ flat_map event_of served)
+IsNoted (ends.BadMagic at) history served = history ≡ (0, Opened) ∷ flat_map event_of served
+IsNoted (ends.TooLong at) history served = history ≡ (0, Opened) ∷ flat_map event_of served
+IsNoted (ends.Torn at) history served = history ≡ (0, Opened) ∷ flat_map event_of served
+IsNoted ends.Limit history served = history ≡ (0, Opened) ∷ flat_map event_of served
+IsNoted ends.ReadFault history served = history ≡ (0, Opened) ∷ flat_map event_of served
+IsNoted ends.WriteFault history served = history ≡ (0, Opened) ∷ flat_map event_of served
+IsNoted ends.Quit history served = history ≡ (0, Opened) ∷ flat_map event_of served
+IsNoted ends.Closed history served = history ≡ (0, Opened) ∷ flat_map event_of served
 
 -- the ends of a session that didn't open
 abbrev pub EndsUnopened : End → Type 0
@@ -151,7 +151,7 @@ pub record IsSession (before now : Outside) (end : End) (history : List (ℕ × 
   -- stands beside it
   pub events : List EventData
   pub only : history ≡ under 0 events
-  pub noted : IsNoted end events served
+  pub noted : IsNoted end history served
   pub legal : IsLegal (session_front events)
   -- what was written is the text of the answers, or after a fault of writing a first part of it
   pub wrote : Appends before.held now.held written
@@ -169,7 +169,7 @@ IsSessionCommand words = words ≡ codes "session" ∷ []
 
 -- a session that has taken these bytes and served none of them
 abbrev pub begin : Outside → List ℕ → Stand
-begin before taken = record { rest = taken; history = Opened ∷ []; pending = []; held = before.held; moment = before.moment; features = no_features; quit = false }
+begin before taken = record { rest = taken; history = (0, Opened) ∷ []; pending = []; held = before.held; moment = before.moment; features = no_features; quit = false }
 
 -- so many bytes were taken, and each whole frame among them was answered
 pub record Progress (before now : Outside) (count : ℕ) (rest : List ℕ) (responder : Responder) : Type 0 where
@@ -205,7 +205,7 @@ pub record Stops (before now : Outside) (end : End) (responder : Responder) : Ty
   pub pending : List ℕ
   pub moment : ℕ → Option ℕ
   pub takes : TakesBytes before.left now.left taken
-  pub serves : Advances (begin before taken) (record { rest = rest; history = events_of 0 responder.history; pending = pending; held = now.held; moment = moment; features = responder.conn.features; quit = is_quit_end end })
+  pub serves : Advances (begin before taken) (record { rest = rest; history = responder.history; pending = pending; held = now.held; moment = moment; features = responder.conn.features; quit = is_quit_end end })
   pub kept : end ≢ ends.WriteFault → pending ≡ responder.conn.out.bytes
   pub extra : ℕ
   pub few : extra ≤ 1

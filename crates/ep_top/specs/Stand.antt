@@ -9,18 +9,17 @@ use Rattle.mcbp_frame.specs.Frames.{IsFrame}
 use Rattle.mcbp_frame.specs.Feeder.{first_frame}
 use Rattle.mcbp_frame.specs.Division.{HasBadMagic, IsTooLong}
 use Rattle.conn_core.specs.declared.hello.Features.{Features}
-use Rattle.vb_world.specs.History.{events_of}
 use Rattle.ep_top.specs.declared.end.End.{End}
 use Rattle.ep_top.specs.declared.end.End.TheVariants as ends
 use Rattle.ep_top.specs.declared.responder.Responder.{Responder}
 use Rattle.conn_core.specs.Exchange.{Exchange, features_of, AreMoments}
 use Rattle.ep_top.specs.Exchange.{event_of, texts_of, StopsAtQuit}
 
--- the bytes that were taken and aren't served, the history of vBucket 0, the answers that aren't written, what sink and clock tell, the
+-- the bytes that were taken and aren't served, the history, the answers that aren't written, what sink and clock tell, the
 -- features, and whether a Quit was served
 pub record Stand : Type 0 where
   pub rest : List ℕ
-  pub history : List EventData
+  pub history : List (ℕ × EventData)
   pub pending : List ℕ
   pub held : Option (List ℕ)
   pub moment : ℕ → Option ℕ
@@ -28,7 +27,7 @@ pub record Stand : Type 0 where
   pub quit : Bool
 
 abbrev pub stand : List ℕ → Responder → Option (List ℕ) → (ℕ → Option ℕ) → Bool → Stand
-stand rest responder held moment quit = record { rest = rest; history = events_of 0 responder.history; pending = responder.conn.out.bytes; held = held; moment = moment; features = responder.conn.features; quit = quit }
+stand rest responder held moment quit = record { rest = rest; history = responder.history; pending = responder.conn.out.bytes; held = held; moment = moment; features = responder.conn.features; quit = quit }
 
 -- the bytes of these frames, one after the other
 abbrev pub bytes_of : List Exchange → List (List ℕ)
