@@ -4,7 +4,7 @@ ghost use Rattle.std.specs.Prelude.{◌≡◌, ◌<◌, ◌≤◌, ◌^◌, ◌|
 ghost use Rattle.std.specs.Io.{ReadsAtMost, WritesAtMost};
 ghost use Rattle.std.specs.Io.KnownBytes.{IsAtEnd, Consumes, ReadConsumes, WriteAppends, Appends as AppendsKnown};
 ghost use Rattle.ep_model.specs.Limits.{IsMoment};
-ghost use Rattle.ep_edge.specs.Edge.{AppendsFront, bytes_read, is_end, read_faults, write_faults};
+ghost use Rattle.ep_edge.specs.Edge.{bytes_read, is_end, read_faults, write_faults};
 ghost use Rattle.ep_edge.specs.Standard.{AppendsSome, after_got, after_put};
 
 use crate::{Clock, Got, Put, Sink, Source};
@@ -134,7 +134,6 @@ impl<W: Write + Drop> Sink for WriterSink<W> {
     /// As many writes of the writer as it needs to take the bytes, and a flush.
     fn write(&mut self, bytes: &[u8]) -> Put
         requires { 0 < length bytes.now }
-        ensures failed { result ≡ Put.Failed → AppendsFront None None bytes.now }
         ensures faults { self.new.faults ≡ write_faults result self.old.faults }
         ensures written { result ≡ Put.Done →
             AppendsKnown (W.contents self.old.writer) (W.contents self.new.writer) bytes.now }
