@@ -45,3 +45,12 @@ Appends (Some held) new bytes = new ≡ Some (held ++ bytes)
 -- the same of some front of these bytes
 abbrev pub AppendsFront : Option (List ℕ) → Option (List ℕ) → List ℕ → Type 0
 AppendsFront old new bytes = (front rest : List ℕ) × (bytes ≡ front ++ rest) × Appends old new front
+
+-- what a sink held and how often it had failed as a write began, and how many bytes that was to write
+pub record Offer : Type 0 where
+  pub held_before : Option (List ℕ)
+  pub faults_before : ℕ
+  pub count : ℕ
+
+abbrev pub offer : Option (List ℕ) → ℕ → ℕ → Offer
+offer held faults count = record { held_before = held; faults_before = faults; count = count }

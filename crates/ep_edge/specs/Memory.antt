@@ -86,9 +86,12 @@ write_answer sink bytes = if is_written sink bytes then put.Done else put.Failed
 abbrev pub after_write : SinkData → List ℕ → SinkData
 after_write sink bytes = record {
   held = sink.held ++ written_front sink bytes;
+  held_before = sink.held;
   spare = sink.spare - length (written_front sink bytes);
   failures = after_call sink.failures;
   faults = if is_written sink bytes then sink.faults else raised sink.faults;
+  faults_before = sink.faults;
+  offered = length bytes;
 }
 
 -- the moment that the k-th next call gives, where these are to come and the last of them is repeated

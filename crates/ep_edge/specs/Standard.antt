@@ -19,7 +19,7 @@ after_got reader source (Bytes n) = record source { reader = reader; ended_befor
 after_got reader source End = record source { reader = reader; ended = true; ended_before = source.ended }
 after_got reader source Failed = record source { reader = reader; ended_before = source.ended; faults = raised source.faults }
 
--- a writer's sink after this answer, which left it this writer
-abbrev pub after_put : {W : Type 0} → W → WriterData W → Put → WriterData W
-after_put writer sink put.Done = record sink { writer = writer }
-after_put writer sink put.Failed = record sink { writer = writer; faults = raised sink.faults }
+-- a writer's sink after this answer to a write of so many bytes, which left it this writer
+abbrev pub after_put : {W : Type 0} → W → WriterData W → ℕ → Put → WriterData W
+after_put writer sink offered put.Done = record sink { writer = writer; faults_before = sink.faults; offered = offered }
+after_put writer sink offered put.Failed = record sink { writer = writer; faults = raised sink.faults; faults_before = sink.faults; offered = offered }

@@ -20,12 +20,16 @@ pub struct SourceData {
     pub faults: u64,
 }
 
-/// A `MemorySink` as clauses see it: the bytes that it holds, and how many more it takes.
+/// A `MemorySink` as clauses see it: the bytes that it holds, how many more it takes, what it held and how often it had
+/// failed as its last write began, and how many bytes that was to write.
 pub struct SinkData {
     pub held: LinkedList<u8>,
+    pub held_before: LinkedList<u8>,
     pub spare: u64,
     pub failures: FailuresData,
     pub faults: u64,
+    pub faults_before: u64,
+    pub offered: u64,
 }
 
 /// A `MemoryClock` as clauses see it: the moments to come, of which the last is repeated.
@@ -45,6 +49,8 @@ pub struct ReaderData<R> {
 pub struct WriterData<W> {
     pub writer: W,
     pub faults: u64,
+    pub faults_before: u64,
+    pub offered: u64,
 }
 
 /// A `SystemClock` as clauses see it: the last moment that it gave.

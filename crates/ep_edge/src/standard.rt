@@ -4,7 +4,7 @@ ghost use Rattle.std.specs.Prelude.{◌≡◌, ◌<◌, ◌≤◌, ◌^◌, ◌|
 ghost use Rattle.std.specs.Io.{ReadsAtMost, WritesAtMost};
 ghost use Rattle.std.specs.Io.KnownBytes.{IsAtEnd, Consumes, ReadConsumes, WriteAppends, Appends as AppendsKnown};
 ghost use Rattle.ep_model.specs.Limits.{IsMoment};
-ghost use Rattle.ep_edge.specs.Edge.{bytes_read, is_end, read_faults, write_faults};
+ghost use Rattle.ep_edge.specs.Edge.{bytes_read, is_end, offer, read_faults, write_faults};
 ghost use Rattle.ep_edge.specs.Standard.{AppendsSome, after_got, after_put};
 
 use crate::{Clock, Got, Put, Sink, Source};
@@ -105,6 +105,10 @@ impl<R: Read + Drop> Source for ReaderSource<R> {
 pub struct WriterSink<W> {
     writer: W,
     faults: u64,
+    /// How often it had failed as the last write began.
+    faults_before: u64,
+    /// How many bytes the last write was to write.
+    offered: usize,
 }
 
 impl<W> Model for WriterSink<W> {
@@ -112,15 +116,20 @@ impl<W> Model for WriterSink<W> {
 
     ghost Value = { WriterData W };
 
-    ghost view = { λ s. record { writer = s.writer; faults = s.faults } };
+    ghost view = { λ s. record { writer = s.writer; faults = s.faults; faults_before = s.faults_before; offered = s.offered } };
 }
 
 impl<W: Write + Drop> WriterSink<W> {
     /// A sink that writes to the writer. It takes no memory.
     pub fn new(writer: W) -> WriterSink<W>
-        ensures { result ≡ record { writer = writer; faults = 0 } }
+        ensures { result ≡ record { writer = writer; faults = 0; faults_before = 0; offered = 0 } }
     {
-        WriterSink { writer, faults: 0 }
+        WriterSink {
+            writer,
+            faults: 0,
+            faults_before: 0,
+            offered: 0,
+        }
     }
 }
 
@@ -131,16 +140,21 @@ impl<W: Write + Drop> Sink for WriterSink<W> {
 
     ghost faults = { λ s. s.faults };
 
+    ghost last_offer = { λ s. offer None s.faults_before s.offered };
+
     /// As many writes of the writer as it needs to take the bytes, and a flush.
     fn write(&mut self, bytes: &[u8]) -> Put
         requires { 0 < length bytes.now }
         ensures faults { self.new.faults ≡ write_faults result self.old.faults }
+        ensures offered { offer None self.new.faults_before self.new.offered ≡ offer None self.old.faults (length bytes.now) }
         ensures written { result ≡ Put.Done →
             AppendsKnown (W.contents self.old.writer) (W.contents self.new.writer) bytes.now }
         ensures not_written { result ≡ Put.Failed →
             AppendsSome (W.contents self.old.writer) (W.contents self.new.writer) bytes.now }
-        ensures after { self.new ≡ after_put self.new.writer self.old result }
+        ensures after { self.new ≡ after_put self.new.writer self.old (length bytes.now) result }
     {
+        self.faults_before = self.faults;
+        self.offered = bytes.len();
         match write_whole(&mut self.writer, bytes) {
             Ok(()) => Put::Done,
             Err(_) => {
