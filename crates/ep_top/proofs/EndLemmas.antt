@@ -1,16 +1,16 @@
 -- From how a session stopped to what it did, once its last answers were written.
-use Rattle.std.proofs.Common.{◌≡◌, ◌≢◌, ℕ, ◌+◌, ◌≤◌, Bool, true, false, ◌||◌, List, [], ◌∷◌, ◌++◌, refl, sym, ap, subst, ◌∙◌, inl, inr, Option, arith, append_assoc, append-nil, drop}
+use Rattle.std.proofs.Common.{◌≡◌, ◌≢◌, ℕ, ◌+◌, ◌<◌, ◌≤◌, Bool, true, false, ◌||◌, List, [], ◌∷◌, ◌++◌, refl, sym, ap, subst, ◌∙◌, inl, inr, Option, arith, append_assoc, append-nil, length, drop}
 use Rattle.std.proofs.lemmas.List.{take-append-drop}
 use Rattle.std.specs.List.{AllByRecursion, concat, flat_map}
 use Rattle.ep_model.specs.Counts.{RoseByOne}
-use Rattle.ep_edge.specs.Edge.{TakesBytes, Appends, IsEmptied}
+use Rattle.ep_edge.specs.Edge.{TakesBytes, Appends, IsEmptied, Offer, offer}
 use Rattle.ep_model.specs.declared.data.EventData.{EventData}
 use Rattle.ep_model.specs.declared.data.EventData.TheVariants.{Opened}
 use Rattle.ep_model.proofs.HistoryLemmas.{legal-bare}
 use Rattle.vb_world.specs.History.{events_of}
 use Rattle.mcbp_frame.specs.Division.{Divides, IsPartial}
 use Rattle.mcbp_frame.specs.Laws.{IsRest}
-use Rattle.mcbp_frame.proofs.DivisionLemmas.{divides-cons, divides-none, some_division, partial_over}
+use Rattle.mcbp_frame.proofs.DivisionLemmas.{divides-cons, divides-none, one_division, some_division, partial_over}
 use Rattle.mcbp_frame.proofs.StreamLemmas.{stream_divides}
 use Rattle.mcbp_frame.specs.Feeder.{first_frame}
 use Rattle.mcbp_frame.specs.Frames.{IsFrame, frame_length}
@@ -22,9 +22,9 @@ use Rattle.conn_core.specs.Exchange.{Exchange}
 use Rattle.ep_top.specs.Exchange.{event_of, texts_of}
 use Rattle.ep_top.specs.Responder.{session_config, IsLegalHistory}
 use Rattle.ep_top.specs.Outside.{Outside, IsReadNoMore}
-use Rattle.ep_top.specs.Stand.{Stand, bytes_of, Advances, Writes, BeginsWithFrame, is_quit_end}
+use Rattle.ep_top.specs.Stand.{most_pending, Stand, LastFails, bytes_of, Advances, Writes, BeginsWithFrame, is_quit_end}
 use Rattle.ep_top.specs.Session.{HasEnded, is_cut, Comes, IsNoted, EndsUnopened, IsSession, begin, no_features, ReadsInTurn, Stops, Written, Lost, Broken, Finishes}
-use Rattle.ep_top.proofs.StandLemmas.{serves_then, serves_then-served, serves_then-written, serves_writes, serves_writes-served, serves_writes-written, appends_nothing, rose_from}
+use Rattle.ep_top.proofs.StandLemmas.{serves_then, serves_then-served, serves_then-written, serves_writes, serves_writes-served, serves_writes-written, fails_here, appends_nothing, rose_from}
 use Rattle.ep_top.proofs.SessionLemmas.{takes_nothing}
 
 -- frames before a text that is divided
@@ -60,8 +60,10 @@ session_from : (before now : Outside) (end : End) (history : List (ℕ × EventD
     → extra ≤ 1 → (is_cut end ≡ false → extra ≡ 0) → (extra ≢ 0 → unserved ≢ []) → (end ≡ ends.NoMemory → unserved ≢ []) → ((k : ℕ) → now.moment k ≡ moment (extra + k)) → (end ≢ ends.WriteFault → pending ≡ [])
     → IsLegalHistory history → end ≢ ends.BadWords → Comes before now taken left quit end
     → ReadsInTurn before now taken p.served p.written → (end ≢ ends.ReadFault → now.read_faults ≡ before.read_faults) → (end ≢ ends.WriteFault → now.write_faults ≡ before.write_faults)
+    → (end ≡ ends.WriteFault → LastFails (begin before taken) before.write_faults p.served now.last_offer)
+    → (end ≡ ends.WriteFault → now.last_offer.count ≤ most_pending → quit ≡ false → extra ≡ 0 → unserved ≡ []) → (end ≡ ends.WriteFault → most_pending < now.last_offer.count → extra ≡ 0)
     → IsSession before now end history
-session_from before now end history taken rest pending moment features quit extra unserved left takes p d all few exact cut_off wanting asked whole legal not comes reads reading writing = record {
+session_from before now end history taken rest pending moment features quit extra unserved left takes p d all few exact cut_off wanting asked whole legal not comes reads reading writing fails due at_once = record {
   taken = taken;
   frames = bytes_of p.served ++ unserved;
   rest = left;
@@ -91,6 +93,9 @@ session_from before now end history taken rest pending moment features quit extr
   texts = p.texts;
   whole = whole;
   comes = comes;
+  fails = fails;
+  due = due;
+  at_once = at_once;
   reads = reads;
   reading = reading;
   writing = writing;
@@ -140,6 +145,10 @@ or_true_not : (a b : Bool) → a || b ≡ true → a ≡ false → b ≡ false �
 or_true_not true b e p q = cc
 or_true_not false b e p q = cc
 
+-- a rest has no frame in its division
+no_frames : (rest : List ℕ) (frames : List (List ℕ)) (left : List ℕ) → IsRest rest → Divides rest frames left → frames ≡ []
+no_frames rest frames left is d = (one_division d (stream_divides.stopped rest [] rest (record { whole = refl; each = tt }) is)).0
+
 -- the same session, whichever way it ended: what wasn't served is divided too
 session_of : (before now : Outside) (end : End) (history : List (ℕ × EventData)) (taken rest pending : List ℕ) (moment : ℕ → Option ℕ) (features : Features) (quit : Bool) (extra : ℕ)
     → TakesBytes before.left now.left taken
@@ -147,14 +156,16 @@ session_of : (before now : Outside) (end : End) (history : List (ℕ × EventDat
     → extra ≤ 1 → (is_cut end ≡ false → extra ≡ 0) → (extra ≢ 0 → BeginsWithFrame rest) → (end ≡ ends.NoMemory → BeginsWithFrame rest) → ((k : ℕ) → now.moment k ≡ moment (extra + k)) → (end ≢ ends.WriteFault → pending ≡ [])
     → IsLegalHistory history → end ≢ ends.BadWords → Comes before now taken rest quit end
     → ReadsInTurn before now taken p.served p.written → (end ≢ ends.ReadFault → now.read_faults ≡ before.read_faults) → (end ≢ ends.WriteFault → now.write_faults ≡ before.write_faults)
+    → (end ≡ ends.WriteFault → LastFails (begin before taken) before.write_faults p.served now.last_offer)
+    → (end ≡ ends.WriteFault → now.last_offer.count ≤ most_pending → quit ≡ false → extra ≡ 0 → IsRest rest) → (end ≡ ends.WriteFault → most_pending < now.last_offer.count → extra ≡ 0)
     → IsSession before now end history
-session_of before now end history taken rest pending moment features quit extra takes p few exact cut_off wanting asked whole legal not comes reads reading writing =
+session_of before now end history taken rest pending moment features quit extra takes p few exact cut_off wanting asked whole legal not comes reads reading writing fails due at_once =
     let cut : (b : Bool) → is_cut end || quit ≡ b → IsSession before now end history =
     elim [
       | true ↦ λ is. let d = some_division rest in
-          session_from before now end history taken rest pending moment features quit extra d.0 d.1 takes p (subst (λ (t : List ℕ). Divides t (bytes_of p.served ++ d.0) d.1) (sym p.cut.whole) (divides_after (bytes_of p.served) p.cut.each d.2)) (λ other none. absurd (or_true_not (is_cut end) quit is other none)) few exact (λ some. some_frame rest d.0 d.1 d.2 (cut_off some)) (λ at. some_frame rest d.0 d.1 d.2 (wanting at)) asked whole legal not (comes_anywhere end before now taken rest d.1 quit is comes) reads reading writing
+          session_from before now end history taken rest pending moment features quit extra d.0 d.1 takes p (subst (λ (t : List ℕ). Divides t (bytes_of p.served ++ d.0) d.1) (sym p.cut.whole) (divides_after (bytes_of p.served) p.cut.each d.2)) (λ other none. absurd (or_true_not (is_cut end) quit is other none)) few exact (λ some. some_frame rest d.0 d.1 d.2 (cut_off some)) (λ at. some_frame rest d.0 d.1 d.2 (wanting at)) asked whole legal not (comes_anywhere end before now taken rest d.1 quit is comes) reads reading writing fails (λ fault few none zero. no_frames rest d.0 d.1 (due fault few none zero) d.2) at_once
       | false ↦ λ is. session_from before now end history taken rest pending moment features quit extra [] rest takes p
-          (subst (λ (frames : List (List ℕ)). Divides taken frames rest) (sym (append-nil (bytes_of p.served))) (stream_divides.stopped taken (bytes_of p.served) rest p.cut (rest_from end before now taken rest quit not (or_false_left (is_cut end) quit is) (or_false_right (is_cut end) quit is) comes))) (λ _ _. refl) few exact (λ some. absurd (some (exact (or_false_left (is_cut end) quit is)))) (λ at. absurd (let c = or_false_left (is_cut end) quit is in let e = ap is_cut at in cc)) asked whole legal not comes reads reading writing
+          (subst (λ (frames : List (List ℕ)). Divides taken frames rest) (sym (append-nil (bytes_of p.served))) (stream_divides.stopped taken (bytes_of p.served) rest p.cut (rest_from end before now taken rest quit not (or_false_left (is_cut end) quit is) (or_false_right (is_cut end) quit is) comes))) (λ _ _. refl) few exact (λ some. absurd (some (exact (or_false_left (is_cut end) quit is)))) (λ at. absurd (let c = or_false_left (is_cut end) quit is in let e = ap is_cut at in cc)) asked whole legal not comes reads reading writing fails (λ _ _ _ _. refl) at_once
     ] in
     cut (is_cut end || quit) refl
 
@@ -217,10 +228,25 @@ session_written before mid now end final responder s w left earlier ended read m
     (reads_more before mid now s.taken s.serves.served [] _ s.serves.written pending.written _ earlier
     (serves_then-served _ here _ s.serves _ ∙ ap (λ l. s.serves.served ++ l) (serves_writes-served here [] now.held pending))
     (serves_then-written _ here _ s.serves _ ∙ ap (λ l. s.serves.written ++ l) (serves_writes-written here [] now.held pending)) s.reads)
-    (λ not. read ∙ s.reading not) (λ able. w.quiet ∙ s.writing able))
+    (λ not. read ∙ s.reading not) (λ able. w.quiet ∙ s.writing able)
+    (λ is. absurd (w.able is)) (λ is. absurd (w.able is)) (λ is. absurd (w.able is)))
+
+-- an end that leaves answers to be written comes where no whole frame is left, behind a Quit, or where memory was wanting
+rest_left : (end : End) (before now : Outside) (taken rest : List ℕ) (extra : ℕ) → end ≢ ends.BadWords → end ≢ ends.WriteFault → (end ≡ ends.NoMemory → extra ≡ 1) → is_quit_end end ≡ false → extra ≡ 0
+    → Comes before now taken rest (is_quit_end end) end → IsRest rest
+rest_left ends.BadWords before now taken rest extra not able short none zero h = absurd (not refl)
+rest_left ends.NoMemory before now taken rest extra not able short none zero h = absurd (let one = short refl in omega arith)
+rest_left (ends.BadMagic at) before now taken rest extra not able short none zero h = inr (inl h.0)
+rest_left (ends.TooLong at) before now taken rest extra not able short none zero h = inr (inr h.0)
+rest_left (ends.Torn at) before now taken rest extra not able short none zero h = inl h.1
+rest_left ends.Limit before now taken rest extra not able short none zero h = inl h.0.partial
+rest_left ends.ReadFault before now taken rest extra not able short none zero h = inl h.0.partial
+rest_left ends.WriteFault before now taken rest extra not able short none zero h = absurd (able refl)
+rest_left ends.Quit before now taken rest extra not able short none zero h = cc
+rest_left ends.Closed before now taken rest extra not able short none zero h = inl (nothing_is_partial rest h.1)
 
 -- a session that stopped, and then lost some of its last answers
-session_lost : (before mid now : Outside) (end final : End) (responder : Responder) (s : Stops before mid end responder) (w : Lost end final responder.conn.out.bytes mid.held now.held mid.write_faults now.write_faults)
+session_lost : (before mid now : Outside) (end final : End) (responder : Responder) (s : Stops before mid end responder) (w : Lost end final responder.conn.out.bytes mid.held now.held mid.write_faults now.write_faults now.last_offer)
     → now.left ≡ mid.left → IsReadNoMore mid now → now.read_faults ≡ mid.read_faults → ((k : ℕ) → now.moment k ≡ mid.moment k)
     → IsSession before now final responder.history
 session_lost before mid now end final responder s w left earlier read moment =
@@ -235,10 +261,14 @@ session_lost before mid now end final responder s w left earlier read moment =
     (reads_more before mid now s.taken s.serves.served [] _ s.serves.written pending.written _ earlier
     (serves_then-served _ here _ s.serves _ ∙ ap (λ l. s.serves.served ++ l) (serves_writes-served here w.lost now.held pending))
     (serves_then-written _ here _ s.serves _ ∙ ap (λ l. s.serves.written ++ l) (serves_writes-written here w.lost now.held pending)) s.reads)
-    (λ _. read ∙ s.reading (λ is. w.some (s.flushed is))) (λ not. absurd (not refl)))
+    (λ _. read ∙ s.reading (λ is. w.some (s.flushed is))) (λ not. absurd (not refl))
+    (λ _. fails_here (begin before s.taken) here s.serves w.lost now.held pending before.write_faults mid.write_faults now.last_offer (s.writing w.able)
+    (w.offered ∙ ap (λ (l : List ℕ). offer mid.held mid.write_faults (length l)) (sym (s.kept w.able))))
+    (λ _ _ none zero. rest_left end before mid s.taken s.rest s.extra s.served w.able (λ is. (s.short is).0) none zero s.comes)
+    (λ _ many. s.exact (λ is. absurd (let few = (s.short is).1 in let count = ap (λ (o : Offer). o.count) w.offered in omega (arith, few, count, many)))))
 
 -- a session that a fault of writing stopped
-session_broken : (before mid now : Outside) (end final : End) (responder : Responder) (s : Stops before mid end responder) (w : Broken end final mid.held now.held mid.write_faults now.write_faults)
+session_broken : (before mid now : Outside) (end final : End) (responder : Responder) (s : Stops before mid end responder) (w : Broken end final mid.held now.held mid.write_faults now.write_faults mid.last_offer now.last_offer)
     → now.left ≡ mid.left → IsReadNoMore mid now → now.has_ended ≡ mid.has_ended → now.read_faults ≡ mid.read_faults → ((k : ℕ) → now.moment k ≡ mid.moment k)
     → IsSession before now final responder.history
 session_broken before mid now end final responder s w left earlier ended read moment =
@@ -251,6 +281,7 @@ session_broken before mid now end final responder s w left earlier ended read mo
       cut = s.serves.cut;
       noted = s.serves.noted;
       texts = s.serves.texts;
+      waited = s.serves.waited;
       features = s.serves.features;
       quits = s.serves.quits;
       wrote = subst (λ (h : Option (List ℕ)). Appends before.held h s.serves.written) (sym w.same) s.serves.wrote;
@@ -260,9 +291,12 @@ session_broken before mid now end final responder s w left earlier ended read mo
     s.few (exact_from end s.extra s.exact) s.cut_off s.wanting (λ k. moment k ∙ s.asked k) (λ not. absurd (not w.before)) s.legal s.served
     (comes_later end before mid now s.taken s.rest (is_quit_end end) left ended read w.quiet s.comes)
     (reads_more before mid now s.taken s.serves.served [] _ s.serves.written [] _ earlier (sym (append-nil s.serves.served)) (sym (append-nil s.serves.written)) s.reads)
-    (λ not. read ∙ s.reading not) (λ able. w.quiet ∙ s.writing able))
+    (λ not. read ∙ s.reading not) (λ able. w.quiet ∙ s.writing able)
+    (λ is. subst (λ (o : Offer). LastFails (begin before s.taken) before.write_faults s.serves.served o) (sym w.same_offer) (s.fails is))
+    (λ is few _ _. inl (s.due is (subst (λ (o : Offer). o.count ≤ most_pending) w.same_offer few)))
+    (λ is _. s.exact (λ none. let e = sym is ∙ none in cc)))
 
-pub session_finished : (before mid now : Outside) (end final : End) (responder : Responder) → Stops before mid end responder → Finishes end final responder.conn.out.bytes mid.held now.held mid.write_faults now.write_faults
+pub session_finished : (before mid now : Outside) (end final : End) (responder : Responder) → Stops before mid end responder → Finishes end final responder.conn.out.bytes mid.held now.held mid.write_faults now.write_faults mid.last_offer now.last_offer
     → now.left ≡ mid.left → IsReadNoMore mid now → now.has_ended ≡ mid.has_ended → now.read_faults ≡ mid.read_faults → ((k : ℕ) → now.moment k ≡ mid.moment k)
     → IsSession before now final responder.history
 session_finished before mid now end final responder s (inl w) left earlier ended read moment = session_written before mid now end final responder s w left earlier ended read moment
@@ -270,10 +304,10 @@ session_finished before mid now end final responder s (inr (inl w)) left earlier
 session_finished before mid now end final responder s (inr (inr w)) left earlier ended read moment = session_broken before mid now end final responder s w left earlier ended read moment
 
 -- no session is finished as bad words
-pub finished_served : (end final : End) (pending : List ℕ) (old new : Option (List ℕ)) (f0 f1 : ℕ) → end ≢ ends.BadWords → Finishes end final pending old new f0 f1 → final ≢ ends.BadWords
-finished_served end final pending old new f0 f1 not (inl w) e = not (sym w.same ∙ e)
-finished_served end final pending old new f0 f1 not (inr (inl w)) e = let f = w.fault in cc
-finished_served end final pending old new f0 f1 not (inr (inr w)) e = let f = w.fault in cc
+pub finished_served : (end final : End) (pending : List ℕ) (old new : Option (List ℕ)) (f0 f1 : ℕ) (o0 o1 : Offer) → end ≢ ends.BadWords → Finishes end final pending old new f0 f1 o0 o1 → final ≢ ends.BadWords
+finished_served end final pending old new f0 f1 o0 o1 not (inl w) e = not (sym w.same ∙ e)
+finished_served end final pending old new f0 f1 o0 o1 not (inr (inl w)) e = let f = w.fault in cc
+finished_served end final pending old new f0 f1 o0 o1 not (inr (inr w)) e = let f = w.fault in cc
 
 unopened_noted : (end : End) → EndsUnopened end → IsNoted end [] []
 unopened_noted ends.BadWords opens = (refl, refl)
@@ -299,9 +333,12 @@ unopened_comes before ends.WriteFault opens = absurd opens
 unopened_comes before ends.Quit opens = absurd opens
 unopened_comes before ends.Closed opens = absurd opens
 
+unopened_able : (end : End) → EndsUnopened end → end ≢ ends.WriteFault
+unopened_able end opens e = subst (λ (x : End). EndsUnopened x) e opens
+
 -- a session that didn't begin took, served and wrote nothing
-pub session_none : (before : Outside) (end : End) → IsNoted end [] [] → Comes before before [] [] false end → IsSession before before end []
-session_none before end noted comes = record {
+pub session_none : (before : Outside) (end : End) → end ≢ ends.WriteFault → IsNoted end [] [] → Comes before before [] [] false end → IsSession before before end []
+session_none before end able noted comes = record {
   taken = [];
   frames = [];
   rest = [];
@@ -331,10 +368,13 @@ session_none before end noted comes = record {
   texts = refl;
   whole = λ _. refl;
   comes = comes;
+  fails = λ is. absurd (able is);
+  due = λ is. absurd (able is);
+  at_once = λ is. absurd (able is);
   reads = inl (record { none = refl; left_before = refl; ended_before = refl });
   reading = λ _. refl;
   writing = λ _. refl;
 }
 
 pub session_unopened : (before : Outside) (end : End) (history : List (ℕ × EventData)) → EndsUnopened end → history ≡ [] → IsSession before before end history
-session_unopened before end history opens none = subst (λ (h : List (ℕ × EventData)). IsSession before before end h) (sym none) (session_none before end (unopened_noted end opens) (unopened_comes before end opens))
+session_unopened before end history opens none = subst (λ (h : List (ℕ × EventData)). IsSession before before end h) (sym none) (session_none before end (unopened_able end opens) (unopened_noted end opens) (unopened_comes before end opens))

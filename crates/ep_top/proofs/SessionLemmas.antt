@@ -1,6 +1,5 @@
 -- A session goes on piece by piece, and how it stops.
 use Rattle.std.proofs.Common.{◌≡◌, ◌≢◌, ℕ, ◌+◌, ◌<◌, Bool, true, false, ◌||◌, List, [], ◌∷◌, ◌++◌, length, refl, sym, ap, subst, ◌∙◌, inl, inr, Option, None, Some, arith, append_assoc, append-nil, zero-add, length-append}
-use Rattle.std.specs.List.{concat}
 use Rattle.ep_model.specs.Counts.{RoseByOne}
 use Rattle.ep_edge.specs.Edge.{TakesBytes, Appends, IsEmptied}
 use Rattle.ep_edge.specs.declared.source.Got.{Got}
@@ -20,7 +19,7 @@ use Rattle.mcbp_frame.specs.Stream.{HasCut}
 use Rattle.mcbp_frame.proofs.StreamLemmas.{stream_divides}
 use Rattle.ep_top.specs.Stand.{stand, bytes_of, Advances, Breaks, BeginsWithFrame, HasStopped, is_quit_end}
 use Rattle.ep_top.specs.Session.{most_taken, HasEnded, Comes, begin, ReadsInTurn, LastRead, Progress, Stops, EndsAt}
-use Rattle.ep_top.proofs.StandLemmas.{serves_then, serves_then-served, serves_then-written, rose_from, appends_nothing}
+use Rattle.ep_top.proofs.StandLemmas.{serves_then, serves_then-served, serves_then-written, fails_then, rose_from, appends_nothing}
 
 pub or_false : (b : Bool) → (b || false) ≡ b
 or_false true = refl
@@ -53,6 +52,7 @@ serves_piece before mid now count got rest fed responder p f = record {
   cut = subst (λ (l : List ℕ). HasCut (p.taken ++ f.piece) (bytes_of p.serves.served) l) (sym f.fed) (stream_divides.fed p.taken f.piece (bytes_of p.serves.served) rest p.serves.cut);
   noted = p.serves.noted;
   texts = p.serves.texts;
+  waited = p.serves.waited;
   features = p.serves.features;
   quits = p.serves.quits;
   wrote = p.serves.wrote;
@@ -127,7 +127,7 @@ not_read_fault end rest kept at rose h e = subst (λ (x : End). HasStopped x res
 
 pub stops_in_frames : (end : End) (before mid now : Outside) (count n at : ℕ) (rest fed rest' : List ℕ) (responder responder' : Responder)
     → Progress before mid count rest responder → Feeds (got.Bytes n) rest fed mid.left now.left
-    → Breaks end (stand fed responder mid.held mid.moment false) (stand rest' responder' now.held now.moment false) at mid.write_faults now.write_faults
+    → Breaks end (stand fed responder mid.held mid.moment false) (stand rest' responder' now.held now.moment false) at mid.write_faults now.write_faults now.last_offer
     → IsLegalHistory responder'.history → at + length rest' ≡ count + n → BeganAt mid now → count < most_taken → now.read_faults ≡ mid.read_faults
     → Stops before now end responder'
 stops_in_frames end before mid now count n at rest fed rest' responder responder' p f b legal place left under read =
@@ -153,14 +153,17 @@ stops_in_frames end before mid now count n at rest fed rest' responder responder
       reading = λ _. read ∙ p.read_faults;
       writing = λ able. b.quiet able ∙ p.write_faults;
       flushed = λ is. absurd (not_read_fault end b.rest rest' at _ b.why is);
+      fails = λ is. fails_then _ _ _ (serves_piece before mid now count (got.Bytes n) rest fed responder p f) b.serves before.write_faults mid.write_faults now.last_offer p.write_faults (b.fails is);
+      due = b.due;
+      short = b.short;
     }
 
 -- a session stops where all whole frames were answered, and nothing more was taken
 stops_here : (end : End) (before mid now : Outside) (count : ℕ) (rest : List ℕ) (responder : Responder) (p : Progress before mid count rest responder)
-    → TakesBytes before.left now.left p.taken → now.held ≡ mid.held → ((k : ℕ) → now.moment k ≡ mid.moment k) → end ≢ ends.BadWords → end ≢ ends.NoMemory → is_quit_end end ≡ false → Comes before now p.taken rest (is_quit_end end) end
+    → TakesBytes before.left now.left p.taken → now.held ≡ mid.held → ((k : ℕ) → now.moment k ≡ mid.moment k) → end ≢ ends.BadWords → end ≢ ends.NoMemory → end ≢ ends.WriteFault → is_quit_end end ≡ false → Comes before now p.taken rest (is_quit_end end) end
     → ReadsInTurn before now p.taken p.serves.served p.serves.written → (end ≢ ends.ReadFault → now.read_faults ≡ before.read_faults) → now.write_faults ≡ mid.write_faults
     → Stops before now end responder
-stops_here end before mid now count rest responder p takes held moment served able none comes reads reading write = record {
+stops_here end before mid now count rest responder p takes held moment served enough able none comes reads reading write = record {
   taken = p.taken;
   rest = rest;
   pending = responder.conn.out.bytes;
@@ -172,6 +175,7 @@ stops_here end before mid now count rest responder p takes held moment served ab
     cut = p.serves.cut;
     noted = p.serves.noted;
     texts = p.serves.texts;
+    waited = p.serves.waited;
     features = p.serves.features;
     quits = subst (λ (q : Bool). StopsAtQuit false p.serves.served q) (sym none) p.serves.quits;
     wrote = subst (λ (h : Option (List ℕ)). Appends before.held h p.serves.written) (sym held) p.serves.wrote;
@@ -183,7 +187,7 @@ stops_here end before mid now count rest responder p takes held moment served ab
   few = omega arith;
   exact = λ _. refl;
   cut_off = λ some. absurd (some refl);
-  wanting = λ is. absurd (able is);
+  wanting = λ is. absurd (enough is);
   asked = λ k. moment k ∙ ap mid.moment (sym (zero-add k));
   legal = p.sound.legal;
   comes = comes;
@@ -192,6 +196,9 @@ stops_here end before mid now count rest responder p takes held moment served ab
   reading = reading;
   writing = λ _. write ∙ p.write_faults;
   flushed = λ _. p.written;
+  fails = λ is. absurd (able is);
+  due = λ is. absurd (able is);
+  short = λ is. absurd (enough is);
 }
 
 -- the last read gave no byte
@@ -206,14 +213,14 @@ takes_on a b c x y p q e = subst (λ (l : List ℕ). TakesBytes a c l) (ap (λ l
 
 pub stops_at_limit : (before now : Outside) (count : ℕ) (rest : List ℕ) (responder : Responder) → Progress before now count rest responder → count ≡ most_taken → Stops before now ends.Limit responder
 stops_at_limit before now count rest responder p full =
-    stops_here ends.Limit before now now count rest responder p p.takes refl (λ _. refl) (λ e. cc) (λ e. cc) refl (record { partial = p.partial; going = p.going }, p.counted ∙ full, refl) p.reads (λ _. p.read_faults) refl
+    stops_here ends.Limit before now now count rest responder p p.takes refl (λ _. refl) (λ e. cc) (λ e. cc) (λ e. cc) refl (record { partial = p.partial; going = p.going }, p.counted ∙ full, refl) p.reads (λ _. p.read_faults) refl
 
 pub stops_at_fault : (before mid now : Outside) (count : ℕ) (rest fed : List ℕ) (responder : Responder)
     → Progress before mid count rest responder → Feeds got.Failed rest fed mid.left now.left → now.held ≡ mid.held → ((k : ℕ) → now.moment k ≡ mid.moment k)
     → now.has_ended ≡ mid.has_ended → RoseByOne mid.read_faults now.read_faults → count < most_taken → BeganAt mid now → now.write_faults ≡ mid.write_faults
     → Stops before now ends.ReadFault responder
 stops_at_fault before mid now count rest fed responder p f held moment going rose under left write =
-    stops_here ends.ReadFault before mid now count rest responder p (takes_on _ _ _ _ _ p.takes f.takes f.count) held moment (λ e. cc) (λ e. cc) refl (record { partial = p.partial; going = going ∙ p.going }, omega (arith, p.counted), rose_from _ _ _ p.read_faults rose, refl)
+    stops_here ends.ReadFault before mid now count rest responder p (takes_on _ _ _ _ _ p.takes f.takes f.count) held moment (λ e. cc) (λ e. cc) (λ e. cc) refl (record { partial = p.partial; going = going ∙ p.going }, omega (arith, p.counted), rose_from _ _ _ p.read_faults rose, refl)
     (read_nothing before mid now count rest responder p left under) (λ not. absurd (not refl)) write
 
 fed_nothing : (rest fed piece : List ℕ) → fed ≡ rest ++ piece → length piece ≡ 0 → fed ≡ rest
@@ -251,12 +258,15 @@ no_bad_words held end h e = subst (λ (x : End). EndsAt held x) e h
 no_want : (held : FeederData) (end : End) → EndsAt held end → end ≢ ends.NoMemory
 no_want held end h e = subst (λ (x : End). EndsAt held x) e h
 
+no_fault : (held : FeederData) (end : End) → EndsAt held end → end ≢ ends.WriteFault
+no_fault held end h e = subst (λ (x : End). EndsAt held x) e h
+
 pub stops_at_end : (end : End) (before mid now : Outside) (count : ℕ) (rest : List ℕ) (held : FeederData) (responder : Responder)
     → Progress before mid count rest responder → Feeds got.End rest held.rest mid.left now.left → now.held ≡ mid.held → ((k : ℕ) → now.moment k ≡ mid.moment k)
     → now.has_ended ≡ true → IsEmptied now.left → count < most_taken → held.at + length rest ≡ count → EndsAt held end → BeganAt mid now → now.read_faults ≡ mid.read_faults → now.write_faults ≡ mid.write_faults
     → Stops before now end responder
 stops_at_end end before mid now count rest held responder p f same moment ended emptied under place at left read write =
-    stops_here end before mid now count rest responder p (takes_on _ _ _ _ _ p.takes f.takes f.count) same moment (no_bad_words held end at) (no_want held end at) (no_quit held end at)
+    stops_here end before mid now count rest responder p (takes_on _ _ _ _ _ p.takes f.takes f.count) same moment (no_bad_words held end at) (no_want held end at) (no_fault held end at) (no_quit held end at)
     (ends_from end before now p.taken rest held (record { ended = ended; emptied = emptied; under = omega (arith, p.counted) }) p.partial
     (fed_nothing rest held.rest f.piece f.fed f.count) (place ∙ sym p.counted) at)
     (read_nothing before mid now count rest responder p left under) (λ _. read ∙ p.read_faults) write
@@ -276,6 +286,7 @@ progress_none before rest responder none fresh sound = record {
     cut = subst (λ (l : List ℕ). HasCut [] [] l) (sym none) stream_divides.begun;
     noted = fresh.history;
     texts = fresh.answers;
+    waited = tt;
     features = ap (λ (b : Bool). let f : Features = record { seqno = b } in f) fresh.features;
     quits = refl;
     wrote = appends_nothing before.held;

@@ -1,17 +1,17 @@
 -- How a session goes on: what was served and written adds up.
-use Rattle.std.proofs.Common.{◌≡◌, ℕ, Bool, false, ◌+◌, ◌≤◌, List, [], ◌∷◌, ◌++◌, length, drop, refl, sym, ap, subst, ◌∙◌, Option, None, Some, IfSome, arith, append_assoc, append-nil, length-append, add-zero, zero-add}
+use Rattle.std.proofs.Common.{◌≡◌, ◌≢◌, ℕ, Bool, false, ◌+◌, ◌≤◌, List, [], ◌∷◌, ◌++◌, length, drop, refl, sym, ap, subst, ◌∙◌, Option, None, Some, IfSome, arith, append_assoc, append-nil, length-append, add-zero, zero-add}
 use Rattle.std.proofs.lemmas.List.{map-append, take-append-drop, length-drop, length-take}
 use Rattle.std.proofs.lemmas.Grind.{flat_map-append}
 use Rattle.std.specs.List.{AllByRecursion, concat, flat_map}
 use Rattle.ep_model.specs.Counts.{RoseByOne, raised}
-use Rattle.ep_edge.specs.Edge.{Appends}
+use Rattle.ep_edge.specs.Edge.{Appends, Offer, offer}
 use Rattle.mcbp_frame.specs.declared.frame.Frame.{Frame}
 use Rattle.mcbp_frame.specs.declared.feeder.FeederData.{FeederData}
 use Rattle.mcbp_frame.specs.declared.feeder.Next.{Next}
 use Rattle.mcbp_frame.specs.declared.feeder.Next.TheVariants as nexts
 use Rattle.mcbp_frame.specs.Feeder.{first_frame, after_next}
 use Rattle.mcbp_frame.specs.declared.frame.FrameData.{FrameData}
-use Rattle.mcbp_frame.specs.Division.{HasBadMagic, IsTooLong}
+use Rattle.mcbp_frame.specs.Division.{HasBadMagic, IsTooLong, IsPartial}
 use Rattle.conn_core.specs.declared.hello.Features.{Features}
 use Rattle.conn_core.specs.Acts.{features_after}
 use Rattle.mcbp_frame.specs.Frames.{IsFrame, frame_at, frame_data, frame_length}
@@ -22,7 +22,7 @@ use Rattle.ep_top.specs.declared.responder.Responder.{Responder}
 use Rattle.conn_core.specs.Exchange.{Exchange, features_of, is_quit, frame_of, AreMoments}
 use Rattle.ep_top.specs.Exchange.{event_of, text_of, texts_of, act_in, StopsAtQuit}
 use Rattle.ep_top.specs.Responder.{Responds, KeepsAllButAnswers}
-use Rattle.ep_top.specs.Stand.{Stand, stand, bytes_of, Advances, Writes, LosesSome, BeginsWithFrame, is_quit_end, HasStopped, Breaks}
+use Rattle.ep_top.specs.Stand.{most_pending, but_last, Waited, Stand, stand, bytes_of, Advances, Writes, LosesSome, LastFails, BeginsWithFrame, is_quit_end, HasStopped, Breaks}
 
 pub appends_nothing : (held : Option (List ℕ)) → Appends held held []
 appends_nothing None = refl
@@ -67,6 +67,37 @@ quits-append : (a b c : Bool) (xs ys : List Exchange) → StopsAtQuit a xs b →
 quits-append a b c [] ys p q = subst (λ (x : Bool). StopsAtQuit x ys c) p q
 quits-append a b c (x ∷ xs) ys p q = (p.0, quits-append (is_quit (act_in (frame_of x))) b c xs ys p.1 q)
 
+but_last-append : (x y : Exchange) (xs ys : List Exchange) → but_last x (xs ++ y ∷ ys) ≡ (x ∷ xs) ++ but_last y ys
+but_last-append x y [] ys = refl
+but_last-append x y (z ∷ zs) ys = ap (λ l. x ∷ l) (but_last-append z y zs ys)
+
+waited_longer : (pending : List ℕ) (features : Features) (xs : List Exchange) (m n : ℕ) → m ≤ n → Waited pending features xs m → Waited pending features xs n
+waited_longer pending features [] m n le w = tt
+waited_longer pending features (x ∷ xs) m n le w = omega arith
+
+-- what had waited before the first of some frames, and what before the first of those behind them
+waited_behind : (pending middle : List ℕ) (features : Features) (x : Exchange) (xs : List Exchange) (y : Exchange) (ys : List Exchange) (v w : List ℕ)
+    → v ++ middle ≡ pending ++ texts_of features (x ∷ xs) → Waited middle (features_of features (x ∷ xs)) (y ∷ ys) (length w)
+    → Waited pending features ((x ∷ xs) ++ y ∷ ys) (length (v ++ w))
+waited_behind pending middle features x xs y ys v w texts waited =
+    let all : length (texts_of features (but_last x (xs ++ y ∷ ys))) ≡ length (texts_of features (x ∷ xs)) + length (texts_of (features_of features (x ∷ xs)) (but_last y ys)) =
+    ap (λ l. length (texts_of features l)) (but_last-append x y xs ys) ∙ ap (λ (l : List ℕ). length l) (texts_of-append features (x ∷ xs) (but_last y ys))
+    ∙ length-append (texts_of features (x ∷ xs)) (texts_of (features_of features (x ∷ xs)) (but_last y ys)) in
+    let both : length v + length middle ≡ length pending + length (texts_of features (x ∷ xs)) =
+    sym (length-append v middle) ∙ ap (λ (l : List ℕ). length l) texts ∙ length-append pending (texts_of features (x ∷ xs)) in
+    omega (arith, all, both, waited, length-append v w)
+
+pub waited_then : (pending middle : List ℕ) (features : Features) (xs ys : List Exchange) (v w : List ℕ)
+    → v ++ middle ≡ pending ++ texts_of features xs → Waited pending features xs (length v) → Waited middle (features_of features xs) ys (length w)
+    → Waited pending features (xs ++ ys) (length (v ++ w))
+waited_then pending middle features xs [] v w texts p q =
+    subst (λ (l : List Exchange). Waited pending features l (length (v ++ w))) (sym (append-nil xs))
+    (waited_longer pending features xs (length v) (length (v ++ w)) (omega (arith, length-append v w)) p)
+waited_then pending middle features [] (y ∷ ys) v w texts p q =
+    let both : length v + length middle ≡ length pending + 0 = sym (length-append v middle) ∙ ap (λ (l : List ℕ). length l) texts ∙ length-append pending [] in
+    omega (arith, both, q, length-append v w)
+waited_then pending middle features (x ∷ xs) (y ∷ ys) v w texts p q = waited_behind pending middle features x xs y ys v w texts q
+
 -- nothing was served and nothing written
 pub serves_nothing : (s : Stand) → Advances s s
 serves_nothing s = record {
@@ -75,6 +106,7 @@ serves_nothing s = record {
   cut = record { whole = refl; each = tt };
   noted = sym (append-nil s.history);
   texts = sym (append-nil s.pending);
+  waited = tt;
   features = refl;
   quits = refl;
   wrote = appends_nothing s.held;
@@ -99,6 +131,8 @@ serves_then a b c p q = record {
       append_assoc p.written q.written c.pending ∙ ap (λ l. p.written ++ l) q.texts ∙ sym (append_assoc p.written b.pending (texts_of b.features q.served))
       ∙ ap (λ l. l ++ texts_of b.features q.served) p.texts ∙ append_assoc a.pending (texts_of a.features p.served) (texts_of b.features q.served)
       ∙ ap (λ l. a.pending ++ l) (ap (λ (f : Features). texts_of a.features p.served ++ texts_of f q.served) p.features ∙ sym (texts_of-append a.features p.served q.served));
+  waited = waited_then a.pending b.pending a.features p.served q.served p.written q.written p.texts p.waited
+      (subst (λ (f : Features). Waited b.pending f q.served (length q.written)) p.features q.waited);
   features = q.features ∙ ap (λ (f : Features). features_of f q.served) p.features ∙ sym (features_of-append a.features p.served q.served);
   quits = quits-append a.quit b.quit c.quit p.served q.served p.quits q.quits;
   wrote = appends_then a.held b.held c.held p.written q.written p.wrote q.wrote;
@@ -115,6 +149,7 @@ serves_writes s left held w = record {
   cut = record { whole = refl; each = tt };
   noted = sym (append-nil s.history);
   texts = sym w.parts ∙ sym (append-nil s.pending);
+  waited = tt;
   features = refl;
   quits = refl;
   wrote = w.wrote;
@@ -141,13 +176,15 @@ serves_writes-written s left held w = refl
 
 -- one frame was answered
 pub serves_answer : (bytes rest more : List ℕ) (at : ℕ) (old new : Responder) (held : Option (List ℕ)) (m later : ℕ → Option ℕ) (quit : Bool)
-    → IsFrame bytes → rest ≡ bytes ++ more → Responds (frame_at bytes at) m later quit old new → Advances (stand rest old held m false) (stand more new held later quit)
-serves_answer bytes rest more at old new held m later quit frame split a = record {
+    → IsFrame bytes → rest ≡ bytes ++ more → Responds (frame_at bytes at) m later quit old new → length old.conn.out.bytes ≤ most_pending
+    → Advances (stand rest old held m false) (stand more new held later quit)
+serves_answer bytes rest more at old new held m later quit frame split a few = record {
   served = (record { bytes = bytes; now = a.now; reply = a.reply; value = a.value }) ∷ [];
   written = [];
   cut = record { whole = split ∙ ap (λ l. l ++ more) (sym (append-nil bytes)); each = (frame, tt) };
   noted = a.noted ∙ ap (λ l. old.history ++ l) (sym (append-nil _));
   texts = a.text ∙ ap (λ l. old.conn.out.bytes ++ l) (sym (append-nil _));
+  waited = omega (arith, few);
   features = a.features;
   quits = (refl, sym a.quits);
   wrote = appends_nothing held;
@@ -155,9 +192,45 @@ serves_answer bytes rest more at old new held m later quit frame split a = recor
   asked = a.asked;
 }
 
+-- the write of all that waited was the first to fail, and some of it is left
+pub fails_here : (start here : Stand) (p : Advances start here) (left : List ℕ) (held : Option (List ℕ)) (w : Writes here.pending left here.held held) (f0 f1 : ℕ) (last : Offer)
+    → f1 ≡ f0 → last ≡ offer here.held f1 (length here.pending)
+    → LastFails start f0 (serves_then start here (record here { pending = left; held = held }) p (serves_writes here left held w)).served last
+fails_here start here p left held w f0 f1 last before is =
+    let same =
+    serves_then-served start here (record here { pending = left; held = held }) p (serves_writes here left held w)
+    ∙ ap (λ (l : List Exchange). p.served ++ l) (serves_writes-served here left held w) ∙ append-nil p.served in
+    subst (λ (l : List Exchange). LastFails start f0 l last) (sym same) (record {
+      earlier = p.written;
+      offered = here.pending;
+      parts = p.texts;
+      held = subst (λ (o : Option (List ℕ)). Appends start.held o p.written) (sym (ap (λ (o : Offer). o.held_before) is)) p.wrote;
+      count = ap (λ (o : Offer). o.count) is;
+      faults_before = ap (λ (o : Offer). o.faults_before) is ∙ before;
+      waited = p.waited;
+    })
+
+-- frames were served before, and no write failed
+pub fails_then : (a b c : Stand) (p : Advances a b) (q : Advances b c) (f0 f1 : ℕ) (last : Offer) → f1 ≡ f0 → LastFails b f1 q.served last → LastFails a f0 (serves_then a b c p q).served last
+fails_then a b c p q f0 f1 last before l =
+    subst (λ (xs : List Exchange). LastFails a f0 xs last) (sym (serves_then-served a b c p q)) (record {
+      earlier = p.written ++ l.earlier;
+      offered = l.offered;
+      parts =
+          append_assoc p.written l.earlier l.offered ∙ ap (λ x. p.written ++ x) l.parts ∙ sym (append_assoc p.written b.pending (texts_of b.features q.served))
+          ∙ ap (λ x. x ++ texts_of b.features q.served) p.texts ∙ append_assoc a.pending (texts_of a.features p.served) (texts_of b.features q.served)
+          ∙ ap (λ x. a.pending ++ x) (ap (λ (f : Features). texts_of a.features p.served ++ texts_of f q.served) p.features ∙ sym (texts_of-append a.features p.served q.served));
+      held = appends_then a.held b.held last.held_before p.written l.earlier p.wrote l.held;
+      count = l.count;
+      faults_before = l.faults_before ∙ before;
+      waited = waited_then a.pending b.pending a.features p.served q.served p.written l.earlier p.texts p.waited
+          (subst (λ (f : Features). Waited b.pending f q.served (length l.earlier)) p.features l.waited);
+    })
+
 -- serving stopped where it stands
-pub breaks_here : (end : End) (old new : Stand) (at f0 f1 : ℕ) → Advances old (record new { quit = is_quit_end end }) → f1 ≡ f0 → HasStopped end new.rest new.rest at (RoseByOne f0 f1) → Breaks end old new at f0 f1
-breaks_here end old new at f0 f1 p quiet why = record {
+pub breaks_here : (end : End) (old new : Stand) (at f0 f1 : ℕ) (last : Offer) → end ≢ ends.WriteFault → end ≢ ends.NoMemory → Advances old (record new { quit = is_quit_end end }) → f1 ≡ f0 → HasStopped end new.rest new.rest at (RoseByOne f0 f1)
+    → Breaks end old new at f0 f1 last
+breaks_here end old new at f0 f1 last able enough p quiet why = record {
   rest = new.rest;
   pending = new.pending;
   moment = new.moment;
@@ -170,6 +243,9 @@ breaks_here end old new at f0 f1 p quiet why = record {
   asked = λ k. ap new.moment (sym (zero-add k));
   why = why;
   quiet = λ _. quiet;
+  fails = λ is. absurd (able is);
+  due = λ is. absurd (able is);
+  short = λ is. absurd (enough is);
 }
 
 -- some of the pending answers were written, and nothing else changed
@@ -181,6 +257,7 @@ advances_writes rest old new held now m k w = record {
   cut = record { whole = refl; each = tt };
   noted = k.history ∙ sym (append-nil old.history);
   texts = sym w.parts ∙ sym (append-nil old.conn.out.bytes);
+  waited = tt;
   features = k.features;
   quits = refl;
   wrote = w.wrote;
@@ -188,11 +265,16 @@ advances_writes rest old new held now m k w = record {
   asked = λ n. ap m (sym (zero-add n));
 }
 
+-- a count that rose by one after it stood rose by one
+pub rose_from : (a b c : ℕ) → b ≡ a → RoseByOne b c → RoseByOne a c
+rose_from a b c e h = h ∙ ap raised e
+
 -- a fault of writing lost some of the pending answers
-pub breaks_loss : (start : Stand) (rest : List ℕ) (old new : Responder) (held now : Option (List ℕ)) (m : ℕ → Option ℕ) (at f0 f1 : ℕ)
-    → Advances start (stand rest old held m false) → KeepsAllButAnswers old new → LosesSome old.conn.out.bytes held now → RoseByOne f0 f1
-    → Breaks ends.WriteFault start (stand rest new now m false) at f0 f1
-breaks_loss start rest old new held now m at f0 f1 p k loss why =
+pub breaks_loss : (start : Stand) (rest : List ℕ) (old new : Responder) (held now : Option (List ℕ)) (m : ℕ → Option ℕ) (at f0 f1 f2 : ℕ) (last : Offer)
+    → Advances start (stand rest old held m false) → KeepsAllButAnswers old new → LosesSome old.conn.out.bytes held now → f1 ≡ f0 → RoseByOne f1 f2
+    → last ≡ offer held f1 (length old.conn.out.bytes) → (length old.conn.out.bytes ≤ most_pending → IsPartial rest)
+    → Breaks ends.WriteFault start (stand rest new now m false) at f0 f2 last
+breaks_loss start rest old new held now m at f0 f1 f2 last p k loss before rose is due =
     let here = stand rest old held m false in
     let q = serves_then start here (record here { pending = loss.0; held = now }) p (serves_writes here loss.0 now loss.1) in
     record {
@@ -205,6 +287,7 @@ breaks_loss start rest old new held now m at f0 f1 p k loss why =
         cut = q.cut;
         noted = k.history ∙ q.noted;
         texts = q.texts;
+        waited = q.waited;
         features = k.features ∙ q.features;
         quits = q.quits;
         wrote = q.wrote;
@@ -217,15 +300,18 @@ breaks_loss start rest old new held now m at f0 f1 p k loss why =
       exact = λ _. refl;
       cut_off = λ some. absurd (some refl);
       asked = λ n. ap m (sym (zero-add n));
-      why = why;
+      why = rose_from f0 f1 f2 before rose;
       quiet = λ h. absurd (h refl);
+      fails = λ _. fails_here start here p loss.0 now loss.1 f0 f1 last before is;
+      due = λ _ few. due (subst (λ (n : ℕ). n ≤ most_pending) (ap (λ (o : Offer). o.count) is) few);
+      short = λ e. cc;
     }
 
 -- memory was wanting for the frame that was handed out, behind some answers that were written
-pub breaks_memory_at : (rest more : List ℕ) (old new : Responder) (left : List ℕ) (held now : Option (List ℕ)) (m later : ℕ → Option ℕ) (at f0 f1 : ℕ) → f1 ≡ f0 → BeginsWithFrame rest
+pub breaks_memory_at : (rest more : List ℕ) (old new : Responder) (left : List ℕ) (held now : Option (List ℕ)) (m later : ℕ → Option ℕ) (at f0 f1 : ℕ) (last : Offer) → f1 ≡ f0 → BeginsWithFrame rest → length left ≤ most_pending
     → Writes old.conn.out.bytes left held now → new.history ≡ old.history → new.conn.out.bytes ≡ left → new.conn.features ≡ old.conn.features → ((k : ℕ) → later k ≡ m (k + 1))
-    → Breaks ends.NoMemory (stand rest old held m false) (stand more new now later false) at f0 f1
-breaks_memory_at rest more old new left held now m later at f0 f1 quiet begins w history same features asked = record {
+    → Breaks ends.NoMemory (stand rest old held m false) (stand more new now later false) at f0 f1 last
+breaks_memory_at rest more old new left held now m later at f0 f1 last quiet begins few w history same features asked = record {
   rest = rest;
   pending = new.conn.out.bytes;
   moment = m;
@@ -235,6 +321,7 @@ breaks_memory_at rest more old new left held now m later at f0 f1 quiet begins w
     cut = record { whole = refl; each = tt };
     noted = history ∙ sym (append-nil old.history);
     texts = ap (λ l. w.written ++ l) same ∙ sym w.parts ∙ sym (append-nil old.conn.out.bytes);
+    waited = tt;
     features = features;
     quits = refl;
     wrote = w.wrote;
@@ -249,24 +336,23 @@ breaks_memory_at rest more old new left held now m later at f0 f1 quiet begins w
   asked = λ k. asked k ∙ ap m (omega arith);
   why = begins;
   quiet = λ _. quiet;
+  fails = λ e. cc;
+  due = λ e. cc;
+  short = λ _. (refl, subst (λ (l : List ℕ). length l ≤ most_pending) (sym same) few);
 }
 
 -- what a feeder holds begins no request, or says a body that is too long
-pub breaks_bad_magic : (held later : FeederData) (old new : Stand) (place f0 f1 : ℕ) → f1 ≡ f0 → Advances old new → new.quit ≡ false → new.rest ≡ later.rest → later ≡ held → HasBadMagic held.rest → place ≡ held.at
-    → Breaks (ends.BadMagic place) old new later.at f0 f1
-breaks_bad_magic held later old new place f0 f1 quiet p none rest same bad at =
-    breaks_here (ends.BadMagic place) old new later.at f0 f1 (subst (λ (q : Bool). Advances old (record new { quit = q })) none p) quiet
+pub breaks_bad_magic : (held later : FeederData) (old new : Stand) (place f0 f1 : ℕ) (last : Offer) → f1 ≡ f0 → Advances old new → new.quit ≡ false → new.rest ≡ later.rest → later ≡ held → HasBadMagic held.rest → place ≡ held.at
+    → Breaks (ends.BadMagic place) old new later.at f0 f1 last
+breaks_bad_magic held later old new place f0 f1 last quiet p none rest same bad at =
+    breaks_here (ends.BadMagic place) old new later.at f0 f1 last (λ e. cc) (λ e. cc) (subst (λ (q : Bool). Advances old (record new { quit = q })) none p) quiet
     (subst (λ (l : List ℕ). HasBadMagic l) (sym (rest ∙ ap (λ (x : FeederData). x.rest) same)) bad, refl, at ∙ sym (ap (λ (x : FeederData). x.at) same))
 
-pub breaks_too_long : (held later : FeederData) (old new : Stand) (place f0 f1 : ℕ) → f1 ≡ f0 → Advances old new → new.quit ≡ false → new.rest ≡ later.rest → later ≡ held → IsTooLong held.rest → place ≡ held.at
-    → Breaks (ends.TooLong place) old new later.at f0 f1
-breaks_too_long held later old new place f0 f1 quiet p none rest same bad at =
-    breaks_here (ends.TooLong place) old new later.at f0 f1 (subst (λ (q : Bool). Advances old (record new { quit = q })) none p) quiet
+pub breaks_too_long : (held later : FeederData) (old new : Stand) (place f0 f1 : ℕ) (last : Offer) → f1 ≡ f0 → Advances old new → new.quit ≡ false → new.rest ≡ later.rest → later ≡ held → IsTooLong held.rest → place ≡ held.at
+    → Breaks (ends.TooLong place) old new later.at f0 f1 last
+breaks_too_long held later old new place f0 f1 last quiet p none rest same bad at =
+    breaks_here (ends.TooLong place) old new later.at f0 f1 last (λ e. cc) (λ e. cc) (subst (λ (q : Bool). Advances old (record new { quit = q })) none p) quiet
     (subst (λ (l : List ℕ). IsTooLong l) (sym (rest ∙ ap (λ (x : FeederData). x.rest) same)) bad, refl, at ∙ sym (ap (λ (x : FeederData). x.at) same))
-
--- a count that rose by one after it stood rose by one
-pub rose_from : (a b c : ℕ) → b ≡ a → RoseByOne b c → RoseByOne a c
-rose_from a b c e h = h ∙ ap raised e
 
 still_stopped : (end : End) (rest kept : List ℕ) (at : ℕ) (rose later : Type 0) → (rose → later) → HasStopped end rest kept at rose → HasStopped end rest kept at later
 still_stopped ends.BadWords rest kept at rose later f h = h
@@ -280,8 +366,8 @@ still_stopped ends.WriteFault rest kept at rose later f h = f h
 still_stopped ends.Quit rest kept at rose later f h = h
 still_stopped ends.Closed rest kept at rose later f h = h
 
-pub breaks_then : (end : End) (a b c : Stand) (at f0 f1 f2 : ℕ) → Advances a b → f1 ≡ f0 → Breaks end b c at f1 f2 → Breaks end a c at f0 f2
-breaks_then end a b c at f0 f1 f2 p before q = record {
+pub breaks_then : (end : End) (a b c : Stand) (at f0 f1 f2 : ℕ) (last : Offer) → Advances a b → f1 ≡ f0 → Breaks end b c at f1 f2 last → Breaks end a c at f0 f2 last
+breaks_then end a b c at f0 f1 f2 last p before q = record {
   rest = q.rest;
   pending = q.pending;
   moment = q.moment;
@@ -294,6 +380,9 @@ breaks_then end a b c at f0 f1 f2 p before q = record {
   asked = q.asked;
   why = still_stopped end q.rest c.rest at (RoseByOne f1 f2) (RoseByOne f0 f2) (rose_from f0 f1 f2 before) q.why;
   quiet = λ able. q.quiet able ∙ before;
+  fails = λ is. fails_then a b _ p q.serves f0 f1 last before (q.fails is);
+  due = q.due;
+  short = q.short;
 }
 
 -- what a feeder holds after it handed out a frame is the rest without it
@@ -317,10 +406,10 @@ place_first held later n frame f is e =
 -- the frame that a feeder handed out was answered
 pub serves_first : (held later : FeederData) (n : Next) (frame : Frame) (old new : Responder) (sink : Option (List ℕ)) (m next : ℕ → Option ℕ) (quit wanted : Bool)
     → IsFrame (first_frame held.rest) → frame_data frame ≡ frame_at (first_frame held.rest) held.at → n ≡ nexts.Frame frame → later ≡ after_next held n
-    → Responds (frame_data frame) m next quit old new → quit ≡ wanted → Advances (stand held.rest old sink m false) (stand later.rest new sink next wanted)
-serves_first held later n frame old new sink m next quit wanted f same is e a q =
+    → Responds (frame_data frame) m next quit old new → quit ≡ wanted → length old.conn.out.bytes ≤ most_pending → Advances (stand held.rest old sink m false) (stand later.rest new sink next wanted)
+serves_first held later n frame old new sink m next quit wanted f same is e a q few =
     serves_answer (first_frame held.rest) held.rest later.rest held.at old new sink m next wanted f (split_first held later n frame is e)
-    (subst (λ (x : FrameData). Responds x m next wanted old new) same (subst (λ (b : Bool). Responds (frame_data frame) m next b old new) q a))
+    (subst (λ (x : FrameData). Responds x m next wanted old new) same (subst (λ (b : Bool). Responds (frame_data frame) m next b old new) q a)) few
 
 -- A feeder that hands out no frame holds what it held, and nothing was served but that some answers were written.
 pub serves_none : (held later : FeederData) (n : Next) (old new : Responder) (sink now : Option (List ℕ)) (m : ℕ → Option ℕ)
@@ -332,6 +421,7 @@ serves_none held later n old new sink now m e same history features w = record {
   cut = record { whole = sym (ap (λ (x : FeederData). x.rest) (e ∙ same)); each = tt };
   noted = history ∙ sym (append-nil old.history);
   texts = sym w.parts ∙ sym (append-nil old.conn.out.bytes);
+  waited = tt;
   features = features;
   quits = refl;
   wrote = w.wrote;

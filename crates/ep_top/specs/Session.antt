@@ -5,7 +5,7 @@ use Rattle.ep_model.specs.Legal.{IsLegal}
 use Rattle.ep_model.specs.declared.data.EventData.{EventData}
 use Rattle.ep_model.specs.declared.data.EventData.TheVariants.{Opened}
 use Rattle.ep_model.specs.Counts.{RoseByOne}
-use Rattle.ep_edge.specs.Edge.{TakesBytes, IsEmptied, Appends}
+use Rattle.ep_edge.specs.Edge.{TakesBytes, IsEmptied, Appends, Offer, offer}
 use Rattle.mcbp_frame.specs.Division.{Divides, HasBadMagic, IsTooLong, IsPartial}
 use Rattle.mcbp_frame.specs.declared.feeder.FeederData.{FeederData}
 use Rattle.mcbp_frame.specs.Stream.{HasCut}
@@ -18,7 +18,7 @@ use Rattle.conn_core.specs.Exchange.{Exchange, AreMoments}
 use Rattle.ep_top.specs.Exchange.{event_of, texts_of, StopsAtQuit}
 use Rattle.ep_top.specs.Responder.{session_front, IsLegalHistory, IsSound}
 use Rattle.ep_top.specs.Outside.{Outside}
-use Rattle.ep_top.specs.Stand.{Stand, stand, bytes_of, Advances, Writes, BeginsWithFrame, is_quit_end}
+use Rattle.ep_top.specs.Stand.{most_pending, Stand, stand, bytes_of, Advances, Writes, LastFails, BeginsWithFrame, is_quit_end}
 
 -- how many bytes a session takes at most
 abbrev pub most_taken : ℕ
@@ -121,6 +121,10 @@ pub record LastRead (before now : Outside) (taken : List ℕ) (served : List Exc
 abbrev pub ReadsInTurn : Outside → Outside → List ℕ → List Exchange → List ℕ → Type 0
 ReadsInTurn before now taken served written = IsUnread before now taken ⊎ LastRead before now taken served written
 
+-- a session that has taken these bytes and served none of them
+abbrev pub begin : Outside → List ℕ → Stand
+begin before taken = record { rest = taken; history = (0, Opened) ∷ []; pending = []; held = before.held; moment = before.moment; features = no_features; quit = false }
+
 pub record IsSession (before now : Outside) (end : End) (history : List (ℕ × EventData)) : Type 0 where
   -- the bytes taken from the source, their one division, and what was served and written
   pub taken : List ℕ
@@ -158,6 +162,12 @@ pub record IsSession (before now : Outside) (end : End) (history : List (ℕ × 
   pub texts : written ++ lost ≡ texts_of no_features served
   pub whole : end ≢ ends.WriteFault → lost ≡ []
   pub comes : Comes before now taken rest quit end
+  -- Nothing was done behind a fault of writing: the last write alone failed, and was to write the rest of these texts.
+  -- It was made as soon as more waited than may, so that the clock was asked for no frame more, or else where no whole
+  -- frame was left, a Quit was served, or memory was wanting for a frame for which the clock was asked.
+  pub fails : end ≡ ends.WriteFault → LastFails (begin before taken) before.write_faults served now.last_offer
+  pub due : end ≡ ends.WriteFault → now.last_offer.count ≤ most_pending → quit ≡ false → extra ≡ 0 → unserved ≡ []
+  pub at_once : end ≡ ends.WriteFault → most_pending < now.last_offer.count → extra ≡ 0
   -- each piece was served and answered before the next one was read, and no fault was passed over
   pub reads : ReadsInTurn before now taken served written
   pub reading : end ≢ ends.ReadFault → now.read_faults ≡ before.read_faults
@@ -166,10 +176,6 @@ pub record IsSession (before now : Outside) (end : End) (history : List (ℕ × 
 -- the command line is the one word `session`
 abbrev pub IsSessionCommand : List (List ℕ) → Type 0
 IsSessionCommand words = words ≡ codes "session" ∷ []
-
--- a session that has taken these bytes and served none of them
-abbrev pub begin : Outside → List ℕ → Stand
-begin before taken = record { rest = taken; history = (0, Opened) ∷ []; pending = []; held = before.held; moment = before.moment; features = no_features; quit = false }
 
 -- so many bytes were taken, and each whole frame among them was answered
 pub record Progress (before now : Outside) (count : ℕ) (rest : List ℕ) (responder : Responder) : Type 0 where
@@ -220,6 +226,9 @@ pub record Stops (before now : Outside) (end : End) (responder : Responder) : Ty
   pub reading : end ≢ ends.ReadFault → now.read_faults ≡ before.read_faults
   pub writing : end ≢ ends.WriteFault → now.write_faults ≡ before.write_faults
   pub flushed : end ≡ ends.ReadFault → responder.conn.out.bytes ≡ []
+  pub fails : end ≡ ends.WriteFault → LastFails (begin before taken) before.write_faults serves.served now.last_offer
+  pub due : end ≡ ends.WriteFault → now.last_offer.count ≤ most_pending → IsPartial rest
+  pub short : end ≡ ends.NoMemory → (extra ≡ 1) × (length responder.conn.out.bytes ≤ most_pending)
 
 -- the answers that were pending as a session stopped were written
 pub record Written (end final : End) (pending : List ℕ) (old new : Option (List ℕ)) (old_faults new_faults : ℕ) : Type 0 where
@@ -229,20 +238,22 @@ pub record Written (end final : End) (pending : List ℕ) (old new : Option (Lis
   pub quiet : new_faults ≡ old_faults
 
 -- some of them are lost by a fault of writing, which is then the end
-pub record Lost (end final : End) (pending : List ℕ) (old new : Option (List ℕ)) (old_faults new_faults : ℕ) : Type 0 where
+pub record Lost (end final : End) (pending : List ℕ) (old new : Option (List ℕ)) (old_faults new_faults : ℕ) (last : Offer) : Type 0 where
   pub able : end ≢ ends.WriteFault
   pub some : pending ≢ []
   pub fault : final ≡ ends.WriteFault
   pub lost : List ℕ
   pub writes : Writes pending lost old new
   pub why : RoseByOne old_faults new_faults
+  pub offered : last ≡ offer old old_faults (length pending)
 
 -- nothing more was written after a fault of writing
-pub record Broken (end final : End) (old new : Option (List ℕ)) (old_faults new_faults : ℕ) : Type 0 where
+pub record Broken (end final : End) (old new : Option (List ℕ)) (old_faults new_faults : ℕ) (old_last new_last : Offer) : Type 0 where
   pub before : end ≡ ends.WriteFault
   pub fault : final ≡ ends.WriteFault
   pub same : new ≡ old
   pub quiet : new_faults ≡ old_faults
+  pub same_offer : new_last ≡ old_last
 
-abbrev pub Finishes : End → End → List ℕ → Option (List ℕ) → Option (List ℕ) → ℕ → ℕ → Type 0
-Finishes end final pending old new old_faults new_faults = Written end final pending old new old_faults new_faults ⊎ (Lost end final pending old new old_faults new_faults ⊎ Broken end final old new old_faults new_faults)
+abbrev pub Finishes : End → End → List ℕ → Option (List ℕ) → Option (List ℕ) → ℕ → ℕ → Offer → Offer → Type 0
+Finishes end final pending old new old_faults new_faults old_last new_last = Written end final pending old new old_faults new_faults ⊎ (Lost end final pending old new old_faults new_faults new_last ⊎ Broken end final old new old_faults new_faults old_last new_last)

@@ -1,13 +1,13 @@
 -- How far a session is, and how it goes on from there.
-use Rattle.std.specs.Prelude.{◌≡◌, ◌≢◌, ℕ, ◌+◌, ◌≤◌, Bool, true, false, List, ◌++◌, length, map, Option}
+use Rattle.std.specs.Prelude.{◌≡◌, ◌≢◌, ℕ, ◌+◌, ◌≤◌, Bool, true, false, List, [], ◌∷◌, ◌++◌, length, map, Option}
 use Rattle.std.specs.List.{flat_map}
 use Rattle.ep_model.specs.declared.data.EventData.{EventData}
 use Rattle.ep_model.specs.Counts.{RoseByOne}
-use Rattle.ep_edge.specs.Edge.{Appends}
+use Rattle.ep_edge.specs.Edge.{Appends, Offer}
 use Rattle.mcbp_frame.specs.Stream.{HasCut}
 use Rattle.mcbp_frame.specs.Frames.{IsFrame}
 use Rattle.mcbp_frame.specs.Feeder.{first_frame}
-use Rattle.mcbp_frame.specs.Division.{HasBadMagic, IsTooLong}
+use Rattle.mcbp_frame.specs.Division.{HasBadMagic, IsTooLong, IsPartial}
 use Rattle.conn_core.specs.declared.hello.Features.{Features}
 use Rattle.ep_top.specs.declared.end.End.{End}
 use Rattle.ep_top.specs.declared.end.End.TheVariants as ends
@@ -33,6 +33,21 @@ stand rest responder held moment quit = record { rest = rest; history = responde
 abbrev pub bytes_of : List Exchange → List (List ℕ)
 bytes_of served = map (λ x. x.bytes) served
 
+-- how many bytes of answers may wait as a frame is served
+abbrev pub most_pending : ℕ
+most_pending = 1048576
+
+-- all of them but the last
+abbrev pub but_last : Exchange → List Exchange → List Exchange
+but_last x [] = []
+but_last x (y ∷ ys) = x ∷ but_last y ys
+
+-- No more waited than may as the last of these frames was served, where so many bytes had been written by then, and
+-- these had waited before the first.
+abbrev pub Waited : List ℕ → Features → List Exchange → ℕ → Type 0
+Waited pending features [] written = Unit {0}
+Waited pending features (x ∷ xs) written = length pending + length (texts_of features (but_last x xs)) ≤ written + most_pending
+
 -- Between the two, these frames of the rest were served, and so much was written.
 pub record Advances (old new : Stand) : Type 0 where
   pub served : List Exchange
@@ -40,6 +55,7 @@ pub record Advances (old new : Stand) : Type 0 where
   pub cut : HasCut old.rest (bytes_of served) new.rest
   pub noted : new.history ≡ old.history ++ flat_map event_of served
   pub texts : written ++ new.pending ≡ old.pending ++ texts_of old.features served
+  pub waited : Waited old.pending old.features served (length written)
   pub features : new.features ≡ features_of old.features served
   pub quits : StopsAtQuit old.quit served new.quit
   pub wrote : Appends old.held new.held written
@@ -55,6 +71,17 @@ pub record Writes (pending left : List ℕ) (old new : Option (List ℕ)) : Type
 -- some of the pending answers are lost, and those before them were written
 abbrev pub LosesSome : List ℕ → Option (List ℕ) → Option (List ℕ) → Type 0
 LosesSome pending old new = (lost : List ℕ) × Writes pending lost old new
+
+-- Of all writes since then the last alone failed. It was to write all that waited, the text of the last frame that was
+-- served among it, so none was served behind it.
+pub record LastFails (old : Stand) (faults : ℕ) (served : List Exchange) (last : Offer) : Type 0 where
+  pub earlier : List ℕ
+  pub offered : List ℕ
+  pub parts : earlier ++ offered ≡ old.pending ++ texts_of old.features served
+  pub held : Appends old.held last.held_before earlier
+  pub count : last.count ≡ length offered
+  pub faults_before : last.faults_before ≡ faults
+  pub waited : Waited old.pending old.features served (length earlier)
 
 -- what wasn't served begins with a whole frame
 abbrev pub BeginsWithFrame : List ℕ → Type 0
@@ -88,7 +115,7 @@ is_quit_end ends.Closed = false
 
 -- Serving stopped behind the last frame that was answered. After want of memory the clock may have been asked for
 -- one frame more, and after a fault of writing some of the pending answers are lost.
-pub record Breaks (end : End) (old new : Stand) (at : ℕ) (old_faults new_faults : ℕ) : Type 0 where
+pub record Breaks (end : End) (old new : Stand) (at : ℕ) (old_faults new_faults : ℕ) (last : Offer) : Type 0 where
   pub rest : List ℕ
   pub pending : List ℕ
   pub moment : ℕ → Option ℕ
@@ -101,3 +128,6 @@ pub record Breaks (end : End) (old new : Stand) (at : ℕ) (old_faults new_fault
   pub asked : (k : ℕ) → new.moment k ≡ moment (extra + k)
   pub why : HasStopped end rest new.rest at (RoseByOne old_faults new_faults)
   pub quiet : end ≢ ends.WriteFault → new_faults ≡ old_faults
+  pub fails : end ≡ ends.WriteFault → LastFails old old_faults serves.served last
+  pub due : end ≡ ends.WriteFault → last.count ≤ most_pending → IsPartial rest
+  pub short : end ≡ ends.NoMemory → (extra ≡ 1) × (length new.pending ≤ most_pending)

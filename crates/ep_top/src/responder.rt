@@ -1,5 +1,6 @@
 // What answers frames: the plain map, the history, and the connection with the answers that aren't written yet.
 ghost use Rattle.std.specs.Prelude.{◌≡◌, ◌≢◌, ◌+◌, ◌<◌, ◌≤◌, ◌^◌, ◌++◌, ℕ, List, [], ◌∷◌, length, IfOk, OnOk, OnErr};
+ghost use Rattle.ep_edge.specs.Edge.{offer};
 ghost use Rattle.ep_model.specs.Counts.{RoseByOne};
 ghost use Rattle.ep_model.specs.History.{call_data};
 ghost use Rattle.ep_model.specs.Limits.{IsMoment, IsWithin, value_room};
@@ -92,6 +93,7 @@ impl Responder {
     pub fn flush<W: Sink>(&mut self, sink: &mut W) -> Put
         ensures done { result ≡ Put.Done → Writes self.old.conn.out.bytes self.new.conn.out.bytes (W.held sink.old) (W.held sink.new) × (self.new.conn.out.bytes ≡ []) }
         ensures failed { result ≡ Put.Failed → LosesSome self.old.conn.out.bytes (W.held sink.old) (W.held sink.new) × RoseByOne (W.faults sink.old) (W.faults sink.new) }
+        ensures offered { result ≡ Put.Failed → W.last_offer sink.new ≡ offer (W.held sink.old) (W.faults sink.old) (length self.old.conn.out.bytes) }
         ensures some { result ≡ Put.Failed → self.old.conn.out.bytes ≢ [] }
         ensures quiet { result ≡ Put.Done → W.faults sink.new ≡ W.faults sink.old }
         ensures kept { KeepsAllButAnswers self.old self.new }
@@ -112,6 +114,8 @@ impl Responder {
     pub fn make_room<W: Sink>(&mut self, sink: &mut W) -> Put
         ensures done { result ≡ Put.Done → Writes self.old.conn.out.bytes self.new.conn.out.bytes (W.held sink.old) (W.held sink.new) × (length self.new.conn.out.bytes ≤ MAX_PENDING) }
         ensures failed { result ≡ Put.Failed → LosesSome self.old.conn.out.bytes (W.held sink.old) (W.held sink.new) × RoseByOne (W.faults sink.old) (W.faults sink.new) }
+        ensures offered { result ≡ Put.Failed → W.last_offer sink.new ≡ offer (W.held sink.old) (W.faults sink.old) (length self.old.conn.out.bytes) }
+        ensures many { result ≡ Put.Failed → MAX_PENDING < length self.old.conn.out.bytes }
         ensures quiet { result ≡ Put.Done → W.faults sink.new ≡ W.faults sink.old }
         ensures kept { KeepsAllButAnswers self.old self.new }
         ensures sound { IsSound self.old → IsSound self.new }

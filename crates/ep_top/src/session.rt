@@ -43,7 +43,7 @@ fn serve_next<W: Sink, C: Clock>(
     ensures less { result ≡ Ok true → length feeder.new.rest < length feeder.old.rest }
     ensures partial { result ≡ Ok false → IsPartial feeder.new.rest }
 
-    ensures breaks { IfErr result (λ end. Breaks end (stand feeder.old.rest responder.old (W.held sink.old) (C.moment clock.old) false) (stand feeder.new.rest responder.new (W.held sink.new) (C.moment clock.new) false) feeder.new.at (W.faults sink.old) (W.faults sink.new)) }
+    ensures breaks { IfErr result (λ end. Breaks end (stand feeder.old.rest responder.old (W.held sink.old) (C.moment clock.old) false) (stand feeder.new.rest responder.new (W.held sink.new) (C.moment clock.new) false) feeder.new.at (W.faults sink.old) (W.faults sink.new) (W.last_offer sink.new)) }
     ensures legal { OnErr result (IsLegalHistory responder.new.history) }
 
     ensures place { feeder.new.at + length feeder.new.rest ≡ feeder.old.at + length feeder.old.rest }
@@ -78,7 +78,7 @@ fn drain<W: Sink, C: Clock>(
     ensures partial { OnOk result (IsPartial feeder.new.rest) }
     ensures written { OnOk result (responder.new.conn.out.bytes ≡ []) }
 
-    ensures breaks { IfErr result (λ end. Breaks end (stand feeder.old.rest responder.old (W.held sink.old) (C.moment clock.old) false) (stand feeder.new.rest responder.new (W.held sink.new) (C.moment clock.new) false) feeder.new.at (W.faults sink.old) (W.faults sink.new)) }
+    ensures breaks { IfErr result (λ end. Breaks end (stand feeder.old.rest responder.old (W.held sink.old) (C.moment clock.old) false) (stand feeder.new.rest responder.new (W.held sink.new) (C.moment clock.new) false) feeder.new.at (W.faults sink.old) (W.faults sink.new) (W.last_offer sink.new)) }
     ensures legal { OnErr result (IsLegalHistory responder.new.history) }
 
     ensures place { feeder.new.at + length feeder.new.rest ≡ feeder.old.at + length feeder.old.rest }
@@ -147,8 +147,8 @@ fn serve_stream<R: Source, W: Sink, C: Clock>(
     requires fresh { IsFresh responder.old }
     requires sound { IsSound responder.old }
 
-    ensures stops { Stops (outside (R.left source.old) (R.left_before source.old) (R.has_ended source.old) (R.ended_before source.old) (R.faults source.old) (W.held sink.old) (W.faults sink.old) (C.moment clock.old))
-        (outside (R.left source.new) (R.left_before source.new) (R.has_ended source.new) (R.ended_before source.new) (R.faults source.new) (W.held sink.new) (W.faults sink.new) (C.moment clock.new)) result responder.new }
+    ensures stops { Stops (outside (R.left source.old) (R.left_before source.old) (R.has_ended source.old) (R.ended_before source.old) (R.faults source.old) (W.held sink.old) (W.last_offer sink.old) (W.faults sink.old) (C.moment clock.old))
+        (outside (R.left source.new) (R.left_before source.new) (R.has_ended source.new) (R.ended_before source.new) (R.faults source.new) (W.held sink.new) (W.last_offer sink.new) (W.faults sink.new) (C.moment clock.new)) result responder.new }
 {
     let mut taken: u64 = 0;
     'pieces: while taken < MAX_TAKEN {
@@ -168,7 +168,7 @@ fn serve_stream<R: Source, W: Sink, C: Clock>(
 
 // Writes what is pending as a session ends, unless a fault of writing ended it.
 fn finish<W: Sink>(end: End, responder: &mut Responder, sink: &mut W) -> End
-    ensures finishes { Finishes end result responder.old.conn.out.bytes (W.held sink.old) (W.held sink.new) (W.faults sink.old) (W.faults sink.new) }
+    ensures finishes { Finishes end result responder.old.conn.out.bytes (W.held sink.old) (W.held sink.new) (W.faults sink.old) (W.faults sink.new) (W.last_offer sink.old) (W.last_offer sink.new) }
     ensures history { responder.new.history ≡ responder.old.history }
 {
     if let End::WriteFault = end {
@@ -224,8 +224,8 @@ pub fn run_session<R: Source, W: Sink, C: Clock>(
 ) -> SessionEnd
     ensures words { result.end ≡ End.BadWords → IsSessionCommand (map string_bytes words.now.items) → ⊥ }
     ensures bad_words { (IsSessionCommand (map string_bytes words.now.items) → ⊥) → result.end ≡ End.BadWords }
-    ensures session { IsSession (outside (R.left source.old) (R.left_before source.old) (R.has_ended source.old) (R.ended_before source.old) (R.faults source.old) (W.held sink.old) (W.faults sink.old) (C.moment clock.old))
-        (outside (R.left source.new) (R.left_before source.new) (R.has_ended source.new) (R.ended_before source.new) (R.faults source.new) (W.held sink.new) (W.faults sink.new) (C.moment clock.new)) result.end result.history }
+    ensures session { IsSession (outside (R.left source.old) (R.left_before source.old) (R.has_ended source.old) (R.ended_before source.old) (R.faults source.old) (W.held sink.old) (W.last_offer sink.old) (W.faults sink.old) (C.moment clock.old))
+        (outside (R.left source.new) (R.left_before source.new) (R.has_ended source.new) (R.ended_before source.new) (R.faults source.new) (W.held sink.new) (W.last_offer sink.new) (W.faults sink.new) (C.moment clock.new)) result.end result.history }
     ensures refused { result.end ≡ End.BadWords → (source.new ≡ source.old) × (sink.new ≡ sink.old) × (clock.new ≡ clock.old) }
     ensures unopened { result.history ≡ [] → (source.new ≡ source.old) × (sink.new ≡ sink.old) × (clock.new ≡ clock.old) }
 {
@@ -264,8 +264,8 @@ fn serve<R: Source, W: Sink, C: Clock>(
     requires sound { IsSound parts.responder }
     ensures served { result.end ≡ End.BadWords → ⊥ }
     ensures opened { result.history ≡ [] → ⊥ }
-    ensures session { IsSession (outside (R.left source.old) (R.left_before source.old) (R.has_ended source.old) (R.ended_before source.old) (R.faults source.old) (W.held sink.old) (W.faults sink.old) (C.moment clock.old))
-        (outside (R.left source.new) (R.left_before source.new) (R.has_ended source.new) (R.ended_before source.new) (R.faults source.new) (W.held sink.new) (W.faults sink.new) (C.moment clock.new)) result.end result.history }
+    ensures session { IsSession (outside (R.left source.old) (R.left_before source.old) (R.has_ended source.old) (R.ended_before source.old) (R.faults source.old) (W.held sink.old) (W.last_offer sink.old) (W.faults sink.old) (C.moment clock.old))
+        (outside (R.left source.new) (R.left_before source.new) (R.has_ended source.new) (R.ended_before source.new) (R.faults source.new) (W.held sink.new) (W.last_offer sink.new) (W.faults sink.new) (C.moment clock.new)) result.end result.history }
 {
     let Parts {
         mut feeder,

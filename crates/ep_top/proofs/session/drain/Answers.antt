@@ -1,7 +1,7 @@
 -- Frame after frame, and then what is pending is written.
-use Rattle.std.proofs.Common.{false, ◌∙◌, refl}
+use Rattle.std.proofs.Common.{false, ◌∙◌, ap, refl, Ok}
 use Rattle.ep_top.specs.Stand.{stand}
-use Rattle.ep_top.proofs.StandLemmas.{serves_nothing, serves_then, advances_writes, breaks_loss, breaks_then, rose_from}
+use Rattle.ep_top.proofs.StandLemmas.{serves_nothing, serves_then, advances_writes, breaks_loss, breaks_then}
 use Rattle.ep_top.proofs.session.drain.Goals as goal
 
 pub frames-init : goal.frames-init
@@ -17,7 +17,7 @@ frames-preserved g c = record {
 
 pub returns-in-Err-clause-breaks : goal.returns-in-Err-clause-breaks
 returns-in-Err-clause-breaks g c =
-    breaks_then _ _ _ _ _ _ _ _ c.frames.invariant.serves c.frames.invariant.faults c.in-Err.ensures.breaks
+    breaks_then _ _ _ _ _ _ _ _ _ c.frames.invariant.serves c.frames.invariant.faults c.in-Err.ensures.breaks
 
 pub returns-in-Done-clause-serves : goal.returns-in-Done-clause-serves
 returns-in-Done-clause-serves g c =
@@ -34,4 +34,5 @@ returns-in-Failed-clause-breaks g c =
     let loop = stand c.frames.feeder.rest c.frames.responder (g.W.Sink.held c.frames.sink) (g.C.Clock.moment c.frames.clock) false in
     let here = stand c.serve_next.new.feeder.rest c.serve_next.new.responder (g.W.Sink.held c.serve_next.new.sink) (g.C.Clock.moment c.serve_next.new.clock) false in
     let fault = c.flush.ensures.failed c.in-Failed.is in
-    breaks_loss start c.serve_next.new.feeder.rest c.serve_next.new.responder c.flush.new.self (g.W.Sink.held c.serve_next.new.sink) (g.W.Sink.held c.flush.new.sink) (g.C.Clock.moment c.serve_next.new.clock) _ _ _ (serves_then start loop here c.frames.invariant.serves c.in-Ok-false.ensures.serves) c.flush.ensures.kept fault.0 (rose_from _ _ _ (c.in-Ok-false.ensures.quiet ∙ c.frames.invariant.faults) fault.1)
+    breaks_loss start c.serve_next.new.feeder.rest c.serve_next.new.responder c.flush.new.self (g.W.Sink.held c.serve_next.new.sink) (g.W.Sink.held c.flush.new.sink) (g.C.Clock.moment c.serve_next.new.clock) _ _ _ _ _ (serves_then start loop here c.frames.invariant.serves c.in-Ok-false.ensures.serves) c.flush.ensures.kept fault.0
+    (c.in-Ok-false.ensures.quiet ∙ c.frames.invariant.faults) fault.1 (c.flush.ensures.offered c.in-Failed.is) (λ _. c.serve_next.ensures.partial (c.in-Ok-false.is ∙ ap Ok c.in-Ok-false.field-0-test))

@@ -7,8 +7,8 @@ use Rattle.ep_top.proofs.session.serve_stream.Given as goal
 abbrev pub invariant-pieces : goal.invariant-pieces
 invariant-pieces g l = record {
   progress : Progress
-      (outside (g.R.Source.left l.fn.source) (g.R.Source.left_before l.fn.source) (g.R.Source.has_ended l.fn.source) (g.R.Source.ended_before l.fn.source) (g.R.Source.faults l.fn.source) (g.W.Sink.held l.fn.sink) (g.W.Sink.faults l.fn.sink) (g.C.Clock.moment l.fn.clock))
-      (outside (g.R.Source.left l.source) (g.R.Source.left_before l.source) (g.R.Source.has_ended l.source) (g.R.Source.ended_before l.source) (g.R.Source.faults l.source) (g.W.Sink.held l.sink) (g.W.Sink.faults l.sink) (g.C.Clock.moment l.clock))
+      (outside (g.R.Source.left l.fn.source) (g.R.Source.left_before l.fn.source) (g.R.Source.has_ended l.fn.source) (g.R.Source.ended_before l.fn.source) (g.R.Source.faults l.fn.source) (g.W.Sink.held l.fn.sink) (g.W.Sink.last_offer l.fn.sink) (g.W.Sink.faults l.fn.sink) (g.C.Clock.moment l.fn.clock))
+      (outside (g.R.Source.left l.source) (g.R.Source.left_before l.source) (g.R.Source.has_ended l.source) (g.R.Source.ended_before l.source) (g.R.Source.faults l.source) (g.W.Sink.held l.sink) (g.W.Sink.last_offer l.sink) (g.W.Sink.faults l.sink) (g.C.Clock.moment l.clock))
       l.taken l.feeder.rest l.responder;
   place : l.feeder.at + length l.feeder.rest ≡ l.taken;
   under : l.taken ≤ most_taken;
