@@ -1,12 +1,12 @@
 // Bytes in pieces of any size become whole frames and a rest.
-ghost use Rattle.std.specs.Prelude.{◌≡◌, false, ◌||◌, ℕ, ◌+◌, ◌-◌, ◌<◌, ◌≤◌, ◌^◌, ◌++◌, [], length, take, drop, min, IfOk};
+ghost use Rattle.std.specs.Prelude.{◌≡◌, ◌≢◌, true, false, ◌||◌, ℕ, ◌+◌, ◌-◌, ◌<◌, ◌≤◌, ◌^◌, ◌++◌, [], length, slice_index, take, drop, min, IfOk};
 ghost use Rattle.std.specs.Borrow.{sem};
 ghost use Rattle.std.specs.Io.BufRead.{Rests};
 ghost use Rattle.ep_edge.specs.Edge.{TakesBytes, IsEmptied, bytes_read, is_end, read_faults};
 ghost use Rattle.mcbp_frame.specs.Division.{IsPartial};
 ghost use Rattle.mcbp_frame.specs.Feeder.{Gives, after_next};
 ghost use Rattle.mcbp_frame.specs.Piece.{Feeds, count_of};
-ghost use Rattle.mcbp_frame.specs.Header.{feeder_room};
+ghost use Rattle.mcbp_frame.specs.Header.{request_magic, feeder_room};
 ghost use Rattle.mcbp_frame.specs.Frames.{IsFrame, body_length, frame_at, frame_data};
 
 use crate::frame::{Frame, HEADER, MAX_BODY, REQUEST};
@@ -129,7 +129,7 @@ impl Feeder {
         if let Next::Frame(frame) = next {
             let length = HEADER + frame.body.len();
             self.start += length;
-            self.at += length as u64;
+            self.at = place_behind(self.at, length);
         }
         next
     }
@@ -230,6 +230,14 @@ fn read_at<R: Source>(buffer: &mut [u8], at: usize, most: usize, source: &mut R)
     source.read(&mut buffer[at..at + most])
 }
 
+// The place of the first byte behind so many.
+fn place_behind(at: u64, count: usize) -> u64
+    requires { at + count < 2 ^ 64 }
+    ensures { result ≡ at + count }
+{
+    at + count as u64
+}
+
 // What comes next where a feeder holds `rest`, whose first byte has the place `at`.
 fn look(rest: &[u8], at: u64) -> Next<'_>
     ensures { Gives (record { at = at; rest = rest.now }) result }
@@ -237,7 +245,7 @@ fn look(rest: &[u8], at: u64) -> Next<'_>
     if rest.is_empty() {
         return Next::Need;
     }
-    if rest[0] != REQUEST {
+    if !begins_request(rest) {
         return Next::BadMagic { at };
     }
     if rest.len() < HEADER {
@@ -252,6 +260,15 @@ fn look(rest: &[u8], at: u64) -> Next<'_>
         return Next::Need;
     }
     Next::Frame(frame_of(&rest[..length], at))
+}
+
+// Whether the first byte is that of a request.
+fn begins_request(bytes: &[u8]) -> bool
+    requires { 0 < length bytes.now }
+    ensures yes { result ≡ true → slice_index bytes.now 0 ≡ request_magic }
+    ensures no { result ≡ false → slice_index bytes.now 0 ≢ request_magic }
+{
+    bytes[0] == REQUEST
 }
 
 // The body length that a header says.
