@@ -27,9 +27,10 @@ use std::collections::HashMap;
 use std::marker::Model;
 
 /// The plain map of one vBucket that is open, under value eviction, with an empty failover table and nothing
-/// stored. A call looks its key up in a hash map at most three times, and copies a key only where it stores the first
-/// document of it. So a call's cost is linear in the lengths of its key and value, but for the hash map, which moves
-/// its entries as it grows and has no bound for keys that all collide.
+/// stored. A call looks its key up in a hash map once, again where it puts a document, and a third time where that is
+/// the key's first or a Get-and-touch shows it; it copies the key only where that is the first. So a call's cost is
+/// linear in the lengths of its key and value, but for the hash map, which moves its entries as it grows and has no bound
+/// for keys that all collide.
 #[derive(Drop)]
 pub struct Plain {
     alloc: Global,
