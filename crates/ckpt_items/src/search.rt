@@ -1,7 +1,8 @@
 // Items by their number and by their key.
-ghost use Rattle.std.specs.Prelude.{◌≡◌, ◌+◌, ◌<◌, ◌≤◌, ℕ, length, drop, slice_index_or};
+ghost use Rattle.std.specs.Prelude.{◌≡◌, ◌+◌, ◌<◌, ◌≤◌, ◌↔◌, ℕ, IsTrue, length, drop, slice_index_or};
 ghost use Rattle.std.specs.List.{find, remove};
 ghost use Rattle.std.specs.VecDeque.{deque_capacity};
+ghost use Rattle.value_pool.specs.Pools.{bytes_at};
 ghost use Rattle.ckpt_items.specs.declared.item.Item.{Item};
 ghost use Rattle.ckpt_items.specs.Items.{is_of, number_of};
 ghost use Rattle.ckpt_items.specs.Stored.{datas, IsPlace, IsRising};
@@ -46,6 +47,13 @@ pub fn place(items: &VecDeque<Item>, seqno: u64) -> Option<usize>
     }
 }
 
+// Whether the item has this key.
+fn has_key(item: &Item, pool: &Pool, key: &[u8]) -> bool
+    ensures { IsTrue result ↔ (bytes_at pool.now item.now.key ≡ key.now) }
+{
+    pool.equals(&item.key, key)
+}
+
 // The number of the first item from the place `from` on that has this key. It looks at one item after the other.
 pub fn find_from(items: &VecDeque<Item>, pool: &Pool, from: usize, key: &[u8]) -> Option<u64>
     requires { from ≤ length items.now.items }
@@ -53,7 +61,7 @@ pub fn find_from(items: &VecDeque<Item>, pool: &Pool, from: usize, key: &[u8]) -
 {
     for index in from..items.len() {
         let item = &items[index];
-        if pool.equals(&item.key, key) {
+        if has_key(item, pool, key) {
             return Some(item.meta.seqno);
         }
     }
