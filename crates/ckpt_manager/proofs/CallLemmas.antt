@@ -149,8 +149,8 @@ room-cleared q key len s room =
     let k : IsCleared q (cleared q key) key = is-cleared q key s in
     omega (arith, s.room, room, k.room, k.blocks)
 
-pub put-all : (a : Inside) (q : QueueData) (items : ItemsData) (key : List ℕ) (meta : Meta) (value : List ℕ) → queue_view a ≡ cleared q key → CountsKeys a → IsSoundQueue q → IsKey key → IsValue value → CanHold q key (length value) → q.high < 2 ^ 48 - 1 → meta.cas ≤ end_of_moments + q.high + 1 → meta.len ≡ length value → items ≡ record a.items { last = a.items.last ++ item_of key meta value (a.high + 1) ∷ [] } → Leaves (record a { items = items; keys = a.keys + 1; high = a.high + 1; maxcas = meta.cas }) (queued q key meta value)
-put-all a q items key meta value view c s is_key is_value room few stamp len left =
+put-next : (a : Inside) (q : QueueData) (items : ItemsData) (key : List ℕ) (meta : Meta) (value : List ℕ) → queue_view a ≡ cleared q key → CountsKeys a → IsSoundQueue q → IsKey key → IsValue value → CanHold q key (length value) → q.high < 2 ^ 48 - 1 → meta.cas ≤ end_of_moments + q.high + 1 → meta.len ≡ length value → items ≡ record a.items { last = a.items.last ++ item_of key meta value (a.high + 1) ∷ [] } → Leaves (record a { items = items; keys = a.keys + 1; high = a.high + 1; maxcas = meta.cas }) (queued q key meta value)
+put-next a q items key meta value view c s is_key is_value room few stamp len left =
     let k : IsCleared q (cleared q key) key = is-cleared q key s in
     let new : queue_view (record a { items = items; keys = a.keys + 1; high = a.high + 1; maxcas = meta.cas }) ≡ put_last (queue_view a) key meta value =
     ap (λ (i : ItemsData). queue_view (record a { items = i; keys = a.keys + 1; high = a.high + 1; maxcas = meta.cas })) left in
@@ -159,6 +159,12 @@ put-all a q items key meta value view c s is_key is_value room few stamp len lef
     leaves (record a { items = items; keys = a.keys + 1; high = a.high + 1; maxcas = meta.cas }) (queued q key meta value)
     (new ∙ ap (λ (q : QueueData). put_last q key meta value) view) count (c.blocks ∙ sym (ap (λ (i : ItemsData). i.blocks) left))
     (sound-put (cleared q key) key meta value k.sound is_key is_value k.absent k.fewer (omega (arith, few, k.high)) (omega (arith, stamp, k.high)) len (room-cleared q key (length value) s room))
+
+pub put-all : (a : Inside) (q : QueueData) (items : ItemsData) (key : List ℕ) (meta : Meta) (value : List ℕ) (n : ℕ) → n ≡ a.high + 1 → queue_view a ≡ cleared q key → CountsKeys a → IsSoundQueue q → IsKey key → IsValue value → CanHold q key (length value) → q.high < 2 ^ 48 - 1 → meta.cas ≤ end_of_moments + q.high + 1 → meta.len ≡ length value → items ≡ record a.items { last = a.items.last ++ item_of key meta value n ∷ [] } → Leaves (record a { items = items; keys = a.keys + 1; high = n; maxcas = meta.cas }) (queued q key meta value)
+put-all a q items key meta value n number view c s is_key is_value room few stamp len left =
+    subst (λ (n : ℕ). Leaves (record a { items = items; keys = a.keys + 1; high = n; maxcas = meta.cas }) (queued q key meta value)) (sym number)
+    (put-next a q items key meta value view c s is_key is_value room few stamp len
+    (subst (λ (n : ℕ). items ≡ record a.items { last = a.items.last ++ item_of key meta value n ∷ [] }) number left))
 
 -- an item goes
 

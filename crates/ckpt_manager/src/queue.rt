@@ -212,7 +212,7 @@ impl Queue {
         ensures last { LastIs self.old self.new (item_of key.now meta value.now (self.old.high + 1)) }
     {
         self.clear(key);
-        let number = self.high + 1;
+        let number = self.next_number();
         let meta = Meta {
             flags: meta.flags,
             expiry: meta.expiry,
@@ -227,6 +227,13 @@ impl Queue {
         self.high = number;
         self.maxcas = meta.cas;
         number
+    }
+
+    /// The number that the next mutation takes.
+    fn next_number(&self) -> u64
+        ensures { result ≡ self.now.high + 1 }
+    {
+        self.high + 1
     }
 
     /// Makes place for a mutation of this key in the open checkpoint.
