@@ -1,5 +1,5 @@
 // What a pass does, in atomic steps of its seat.
-ghost use Rattle.std.specs.Prelude.{◌≡◌, ◌+◌, ◌<◌, ◌≤◌, ℕ, true, false, [], None, IfSome, IfNone};
+ghost use Rattle.std.specs.Prelude.{◌≡◌, ◌+◌, ◌<◌, ◌≤◌, ◌↔◌, ℕ, true, false, [], None, IfSome, IfNone, IsTrue};
 ghost use Rattle.ep_model.specs.declared.event.PartName.{PartName};
 ghost use Rattle.ep_model.specs.History.{event_data};
 ghost use Rattle.ep_model.specs.Legal.{May};
@@ -18,6 +18,13 @@ use hold_stage::{Beginning, Stands};
 
 // The word that counts the events.
 const COUNT: usize = 0;
+
+// Whether a part's turn is nobody's.
+fn is_free(turn: u64) -> bool
+    ensures { IsTrue result ↔ (turn ≡ 0) }
+{
+    turn == 0
+}
 
 // Wins the turn of the part at a slot and takes the part out, or counts that somebody else has it. Two steps, or one; the
 // slot is moved between them as plain memory.
@@ -38,7 +45,7 @@ pub fn take<P: Stands>(
     ensures taken { IfSome result (λ x. Taken P.stands part seat.old.me.0 seat.new.me.0 x) }
     ensures lost { IfNone result (Missed seat.old.me.0 seat.new.me.0) }
 {
-    if board.compare_exchange::<Tries>(seat, slot + 1, 0, 1) != 0 {
+    if !is_free(board.compare_exchange::<Tries>(seat, slot + 1, 0, 1)) {
         return None;
     }
     let value = board.exchange(seat, slot, None);

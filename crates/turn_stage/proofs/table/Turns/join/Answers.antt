@@ -1,4 +1,4 @@
-use Rattle.std.proofs.Common.{ap, ◌∙◌, arith}
+use Rattle.std.proofs.Common.{ap, ◌∙◌, arith, rules}
 use Rattle.atomic_table.specs.Table.{Me}
 use Rattle.turn_stage.proofs.Rests.{rests}
 use Rattle.turn_stage.proofs.Splits.{joins}
@@ -9,13 +9,9 @@ pub join_seat-requires : goal.join_seat-requires
 join_seat-requires g c =
     let w = c.args.self.now.words in
     let mine = rests c.args.pass.now.seat.me c.args.pass.now.rests in
-    let theirs = rests c.args.other.seat.me c.args.other.rests in (
-      c.requires.of.0.0,
-      c.requires.of.1.0,
-      theirs.carried,
-      omega arith,
-      joins g.P.Stands.stands c.args.pass.now.seat.id c.args.pass.now.seat.me.0 c.args.other.seat.id c.args.other.seat.me.0 mine.live theirs.live c.requires.none.0 c.requires.none.1,
-    )
+    let theirs = rests c.args.other.seat.me c.args.other.rests in
+    let both = joins g.P.Stands.stands c.args.pass.now.seat.id c.args.pass.now.seat.me.0 c.args.other.seat.id c.args.other.seat.me.0 mine.live theirs.live c.requires.none.0 c.requires.none.1 in
+    (c.requires.of.0.0, c.requires.of.1.0, theirs.carried, omega arith, search rules)
 
 pub load-requires : goal.load-requires
 load-requires g c =
