@@ -1,5 +1,6 @@
 // The queue of a vBucket's mutations, in checkpoints.
-ghost use Rattle.std.specs.Prelude.{◌≡◌, ◌≤◌};
+ghost use Rattle.std.specs.Prelude.{◌≡◌, ◌≤◌, ◌+◌, length};
+ghost use Rattle.ep_model.specs.Limits.{IsKey};
 ghost use Rattle.ep_model.specs.World.{blocks};
 
 use ckpt_cursors::Cursors;
@@ -50,6 +51,15 @@ fn blocks_of(len: u32) -> u32
     ensures bound { result ≤ 33554432 }
 {
     len.div_ceil(128)
+}
+
+/// How many blocks an item of this key takes, with so many bytes of value.
+fn blocks_of_item(key: &[u8], len: u32) -> u32
+    requires { IsKey key.now }
+    ensures blocks { result ≡ blocks (length key.now) + blocks len }
+    ensures bound { result ≤ 67108864 }
+{
+    blocks_of(key.len() as u32) + blocks_of(len)
 }
 
 impl Queue {
@@ -127,7 +137,7 @@ impl Queue {
         ensures same { CanHold self.old key.now len → self.new ≡ self.old }
         ensures last { LastStays self.old self.new }
     {
-        let need = blocks_of(key.len() as u32) + blocks_of(len);
+        let need = blocks_of_item(key, len);
         let replaced = self.replaced_blocks(key);
         loop {
             let free = self.free() + replaced;
@@ -165,7 +175,7 @@ impl Queue {
             None => 0,
             Some(number) => match self.items.meta(number) {
                 None => unreachable!(),
-                Some(meta) => blocks_of(key.len() as u32) + blocks_of(meta.len),
+                Some(meta) => blocks_of_item(key, meta.len),
             },
         }
     }

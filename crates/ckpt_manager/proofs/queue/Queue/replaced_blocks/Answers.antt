@@ -19,4 +19,4 @@ returns-in-Some-meta c =
     let sum : blocks (length c.args.key.now) + blocks c.in-Some-meta.meta.len ≡ replaced_blocks c.args.self.now c.args.key.now =
     subst (λ (o : Option Meta). MatchOption o ⊥ (λ m. blocks (length c.args.key.now) + blocks m.len ≡ replaced_blocks c.args.self.now c.args.key.now)) c.in-Some-meta.is
     (replaced-meta c.self.inside c.args.self.now c.args.key.now c.in-Some.number c.meta.result c.self.view_is c.self.invariant (sym c.find_open.ensures ∙ c.in-Some.is) c.meta.ensures) in
-    omega (arith, c.blocks_of.ensures.blocks, c.blocks_of-in-Some-meta.ensures.blocks, sum)
+    c.blocks_of_item.ensures.blocks ∙ sum
