@@ -17,3 +17,4 @@ pub mod WaitLemmas
 pub mod ApartLemmas
 pub mod HistoryLemmas
 pub mod CheckpointLemmas
+pub mod SlotLemmas

@@ -8,6 +8,8 @@
 
 pub mod histories;
 pub mod laws;
+mod slots;
 mod stage;
 
+pub use slots::slot_of;
 pub use stage::{Beginning, Stage, Stands};

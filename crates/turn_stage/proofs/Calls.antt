@@ -20,7 +20,7 @@ use Rattle.turn_stage.specs.Passes.{Joined}
 use Rattle.turn_stage.specs.Rule.{IsLonger, Turned}
 use Rattle.turn_stage.specs.Plays.{part_of, Won, Tried, PutDown, PickedUp, Gave, Told, longer, joined_view}
 use Rattle.turn_stage.specs.Seats.{IsResting, Taken, Missed}
-use Rattle.turn_stage.proofs.Parts.{same_itself}
+use Rattle.hold_stage.proofs.SlotLemmas.{same_itself}
 use Rattle.turn_stage.proofs.Steps.{tries, puts_down, picks_up, gives_back, named}
 
 module _ {P : Type 0} (stands : PartName → FrontData → P → Type 0) (keep : (p : PartName) (f : FrontData) (event : EventData) (x : P) → IsLegal f → May f event → touches f event p ≡ false → stands p f x → stands p (with_event f event) x) where

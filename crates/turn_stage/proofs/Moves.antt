@@ -17,7 +17,8 @@ use Rattle.turn_stage.specs.declared.data.View.{View}
 use Rattle.hold_stage.specs.Slots.{slot_of}
 use Rattle.turn_stage.specs.Slots.{turn_of, has}
 use Rattle.turn_stage.specs.Rule.{IsHeld, Fits, Apart, AnySeat, IsHome, IsUnspoken, Turned}
-use Rattle.turn_stage.proofs.Parts.{not_both, is_false, slots_apart}
+use Rattle.hold_stage.proofs.SlotLemmas.{slots_apart}
+use Rattle.turn_stage.proofs.Parts.{not_both, is_false}
 use Rattle.turn_stage.proofs.Seats.{each_set, two_set, any_set, any_mine, shares_set}
 
 -- being apart is mutual

@@ -26,7 +26,8 @@ use Rattle.hold_stage.specs.Slots.{slot_of, name_of, bare_front}
 use Rattle.turn_stage.specs.Slots.{turn_of, has}
 use Rattle.turn_stage.specs.Rule.{IsEnded, Fits, Turned}
 use Rattle.turn_stage.specs.Parts.{AreParts, first_view}
-use Rattle.turn_stage.proofs.Parts.{not_both, slot_within, name_of_slot}
+use Rattle.hold_stage.proofs.SlotLemmas.{slot_within, name_of_slot}
+use Rattle.turn_stage.proofs.Parts.{not_both}
 use Rattle.turn_stage.proofs.Seats.{at_one, shares_two}
 use Rattle.turn_stage.proofs.Steps.{all_each}
 

@@ -21,7 +21,8 @@ use Rattle.hold_stage.specs.Slots.{slot_of, name_of}
 use Rattle.turn_stage.specs.Slots.{turn_of, has, without_part}
 use Rattle.turn_stage.specs.Rule.{IsHeld, Fits, Apart, IsHome, Turned}
 use Rattle.turn_stage.specs.Plays.{part_of, Looked, Won, Tried, PutDown, PickedUp, Gave, Told}
-use Rattle.turn_stage.proofs.Parts.{not_both, is_false, same_itself, same_or, slot_within, name_of_slot, has_more, without_less, without_this, without_other}
+use Rattle.hold_stage.proofs.SlotLemmas.{same_itself, slot_within, name_of_slot}
+use Rattle.turn_stage.proofs.Parts.{not_both, is_false, same_or, has_more, without_less, without_this, without_other}
 use Rattle.hold_stage.proofs.GrowsLemmas.{grown_nothing, grown_fewer, keeps_along}
 use Rattle.turn_stage.proofs.Fronts.{start_bare}
 use Rattle.turn_stage.proofs.Moves.{turn_here, turn_other, filled_other, held_other, moved}

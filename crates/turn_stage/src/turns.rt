@@ -5,7 +5,7 @@ ghost use Rattle.ep_model.specs.History.{event_data};
 ghost use Rattle.ep_model.specs.Legal.{May, IsLegal};
 ghost use Rattle.hold_stage.specs.Touches.{there};
 ghost use Rattle.hold_stage.specs.Grows.{IsNone, Covered, IsOwn};
-ghost use Rattle.hold_stage.specs.Slots.{slot_of, bare_front};
+ghost use Rattle.hold_stage.specs.Slots.{bare_front};
 ghost use Rattle.turn_stage.specs.Slots.{has, without_part};
 ghost use Rattle.turn_stage.specs.Plays.{Looked, Notes, Begins, without_number, with_number, joined_view};
 ghost use Rattle.turn_stage.specs.Parts.{AreParts, first_view};
@@ -20,22 +20,9 @@ use crate::stage::TurnStage;
 use crate::table::Turns;
 use atomic_table::Table;
 use ep_model::{Busy, Config, Event, NoMemory, PartName};
-use hold_stage::{Beginning, Stands};
+use hold_stage::{Beginning, Stands, slot_of};
 use std::alloc::Global;
 use std::marker::Brand;
-
-// The slot of a part: the stripes in order, the queue and the desk.
-fn slot_of(config: &Config, part: PartName) -> usize
-    ensures slot { result ≡ slot_of config.now part }
-    ensures small { result ≤ 65536 }
-{
-    let stripes = usize::from(config.stripes);
-    match part {
-        PartName::Stripe(stripe) => usize::from(stripe),
-        PartName::Queue => stripes,
-        PartName::Desk => stripes + 1,
-    }
-}
 
 impl<P> TurnPass<P> {
     /// How many caller numbers it can still give. Constant time.

@@ -1,9 +1,9 @@
 -- Where the parts of a vBucket are, and what changes of it leave.
-use Rattle.std.proofs.Common.{◌≡◌, ℕ, zero, suc, ◌+◌, ◌<◌, Bool, true, false, not, ◌&&◌, ◌||◌, if◌then◌else◌, List, [], ◌∷◌, ◌++◌, length, map, slice_get, slice_set, Option, Some, None, refl, sym, ap, ◌∙◌, subst, arith, inl, inr}
+use Rattle.std.proofs.Common.{◌≡◌, ℕ, zero, suc, ◌+◌, ◌<◌, Bool, true, false, not, ◌&&◌, ◌||◌, if◌then◌else◌, List, [], ◌∷◌, ◌++◌, length, map, slice_get, slice_set, Option, Some, None, refl, sym, ap, ◌∙◌, subst, arith, inl, inr, true≢false}
 use Rattle.std.specs.List.{AllByRecursion}
 use Rattle.std.specs.Option.{option_map}
 use Rattle.std.proofs.lemmas.Option.{slice_get_within}
-use Rattle.std.proofs.lemmas.Bool.{cases_eq, eqb-true, eq-eqb, ne_eqb, eqb-false, ltb-true, le-ltb}
+use Rattle.std.proofs.lemmas.Bool.{cases_eq, eqb-true, eq-eqb}
 use Rattle.std.proofs.lemmas.Bool.Decides.{nat_tests}
 use Rattle.ep_model.specs.declared.config.Config.{Config}
 use Rattle.ep_model.specs.declared.event.PartName.{PartName}
@@ -11,30 +11,15 @@ use Rattle.ep_model.specs.declared.event.PartName.TheVariants.{Stripe, Queue, De
 use Rattle.ep_model.specs.declared.data.StartData.{StartData}
 use Rattle.hold_stage.specs.Touches.{there, same_part}
 use Rattle.hold_stage.specs.Grows.{and_this, but_this}
+use Rattle.hold_stage.proofs.SlotLemmas.{part_same, same_of, slot_within, slots_apart}
 use Rattle.vb_world.specs.declared.place.Place.{Place}
 use Rattle.vb_world.specs.declared.place.Place.TheVariants.{Home, Out}
 use Rattle.vb_world.specs.declared.data.BucketData.{BucketData}
 use Rattle.vb_world.specs.declared.data.WorldData.{WorldData}
-use Rattle.vb_world.specs.World.{slot_of, name_of, place_at, place_in, home_of, part_in, is_out_with, has_out, changed_at, put_place, put_start, with_place, with_origin, with_bucket, bucket_of}
+use Rattle.vb_world.specs.World.{slot_of, place_at, place_in, home_of, part_in, is_out_with, has_out, changed_at, put_place, put_start, with_place, with_origin, with_bucket, bucket_of}
 use Rattle.vb_world.proofs.Lists.{get-changed, get-changed_other, get-changed_kept, all-get, get_set, get_set_other, get_within, get_push, get_push_last}
 
 -- parts and their names
-pub part_same : (p q : PartName) → same_part p q ≡ true → p ≡ q
-part_same (Stripe a) (Stripe b) e = ap Stripe (sym (eqb-true b a e))
-part_same (Stripe a) Queue e = absurd (cc)
-part_same (Stripe a) Desk e = absurd (cc)
-part_same Queue (Stripe b) e = absurd (cc)
-part_same Queue Queue e = refl
-part_same Queue Desk e = absurd (cc)
-part_same Desk (Stripe b) e = absurd (cc)
-part_same Desk Queue e = absurd (cc)
-part_same Desk Desk e = refl
-
-pub same_itself : (p : PartName) → same_part p p ≡ true
-same_itself (Stripe a) = eq-eqb a a refl
-same_itself Queue = refl
-same_itself Desk = refl
-
 pub same_turned : (p q : PartName) → same_part p q ≡ same_part q p
 same_turned (Stripe a) (Stripe b) = grind (arith, nat_tests)
 same_turned (Stripe a) Queue = refl
@@ -45,29 +30,6 @@ same_turned Queue Desk = refl
 same_turned Desk (Stripe b) = refl
 same_turned Desk Queue = refl
 same_turned Desk Desk = refl
-
-pub slot_within : (config : Config) (p : PartName) → there config p ≡ true → slot_of config p < config.stripes + 2
-slot_within config (Stripe a) h = let k : a < config.stripes = ltb-true a config.stripes h in omega arith
-slot_within config Queue h = omega arith
-slot_within config Desk h = omega arith
-
--- two parts have two places
-pub slots_apart : (config : Config) (p q : PartName) → there config p ≡ true → there config q ≡ true → same_part p q ≡ false → slot_of config p ≡ slot_of config q → ⊥
-slots_apart config (Stripe a) (Stripe b) h k n e = eqb-false b a n (sym e)
-slots_apart config (Stripe a) Queue h k n e = let l : a < config.stripes = ltb-true a config.stripes h in absurd (omega arith)
-slots_apart config (Stripe a) Desk h k n e = let l : a < config.stripes = ltb-true a config.stripes h in absurd (omega arith)
-slots_apart config Queue (Stripe b) h k n e = let l : b < config.stripes = ltb-true b config.stripes k in absurd (omega arith)
-slots_apart config Queue Queue h k n e = absurd (cc)
-slots_apart config Queue Desk h k n e = absurd (omega arith)
-slots_apart config Desk (Stripe b) h k n e = let l : b < config.stripes = ltb-true b config.stripes k in absurd (omega arith)
-slots_apart config Desk Queue h k n e = absurd (omega arith)
-slots_apart config Desk Desk h k n e = absurd (cc)
-
--- the part that has a part's place is that part
-pub name_of_slot : (config : Config) (p : PartName) → there config p ≡ true → name_of config (slot_of config p) ≡ p
-name_of_slot config (Stripe a) h = rw h refl
-name_of_slot config Queue h = rw (le-ltb config.stripes config.stripes (omega arith), eq-eqb config.stripes config.stripes refl) refl
-name_of_slot config Desk h = rw (le-ltb (config.stripes + 1) config.stripes (omega arith), ne_eqb (config.stripes + 1) config.stripes (λ e. omega arith)) refl
 
 module _ {P : Type 0} where
   if_some : (b : Bool) (o : Option (Place P)) (place : Place P) → (if b then o else None) ≡ Some place → (b ≡ true) × (o ≡ Some place)
@@ -111,7 +73,7 @@ module _ {P : Type 0} where
             let read : slice_get (slice_set at.0.places slot place) (slot_of w.config q) ≡ Some place =
             ap (λ (p : PartName). slice_get (slice_set at.0.places slot place) (slot_of w.config p)) (sym is) ∙ get_set at.0.places slot place bound in
             new ∙ (ap (λ (t : Bool). if t then slice_get (slice_set at.0.places slot place) (slot_of w.config q) else None) there_q ∙ read)
-        | false ↦ λ e. new ∙ (if_there w.config q _ _ (λ k. get_set_other at.0.places slot (slot_of w.config q) place (slots_apart w.config part q here k e)) ∙ sym old)
+        | false ↦ λ e. new ∙ (if_there w.config q _ _ (λ k. get_set_other at.0.places slot (slot_of w.config q) place (slots_apart w.config part q here k (λ same. true≢false (sym (same_of part q same) ∙ e)))) ∙ sym old)
       ] in
       go (same_part part q) refl
 

@@ -26,7 +26,8 @@ use Rattle.vb_world.specs.declared.data.WorldData.{WorldData}
 use Rattle.vb_world.specs.World.{slot_of, home_of, part_in, put_place, put_start, start_of, front_in, bare_front, with_place, with_origin, with_bucket, bucket_of, empty_world, StandBare, Sound}
 use Rattle.vb_world.proofs.Lists.{get-changed, get-changed_other, get-changed_kept, length-changed, all-changed, all-push, all-map, get_push, get_push_last, get_within}
 use Rattle.vb_world.proofs.Histories.{events_of-push, events_of-push-other}
-use Rattle.vb_world.proofs.Places.{name_of_slot, part_same, place_other, part_put, home_within, place_begun, part_pushed, part_new}
+use Rattle.hold_stage.proofs.SlotLemmas.{name_of_slot, part_same}
+use Rattle.vb_world.proofs.Places.{place_other, part_put, home_within, place_begun, part_pushed, part_new}
 
 -- a vBucket has no events where all are of vBuckets below it
 pub events_below : (n : ℕ) (pairs : List (ℕ × EventData)) → AllByRecursion (λ (pair : ℕ × EventData). pair.0 < n) pairs → events_of n pairs ≡ []

@@ -19,7 +19,8 @@ use Rattle.vb_world.specs.declared.data.WorldData.{WorldData}
 use Rattle.vb_world.specs.Buckets.{bucket_data}
 use Rattle.vb_world.specs.World.{slot_of, home_of, place_at, part_in, front_in, changed_at, put_place, put_start, bucket_of, with_origin, empty_world, StandBare, Sound}
 use Rattle.vb_world.proofs.Lists.{all-get}
-use Rattle.vb_world.proofs.Places.{slot_within, home_within, part_there}
+use Rattle.hold_stage.proofs.SlotLemmas.{slot_within}
+use Rattle.vb_world.proofs.Places.{home_within, part_there}
 use Rattle.vb_world.proofs.Sounds.{sound_placed, sound_beside, sound_begun, sound_noted, sound_pushed, sound_empty, Keeps}
 
 module _ {P : Type 0} (stands : PartName → FrontData → P → Type 0) where

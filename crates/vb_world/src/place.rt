@@ -3,10 +3,10 @@ ghost use Rattle.std.specs.Prelude.{◌≡◌, ◌<◌, length, map, slice_get, 
 ghost use Rattle.vb_world.specs.declared.place.Place.TheVariants.{Out as OutWith};
 ghost use Rattle.vb_world.specs.declared.place.Bucket.{Bucket};
 ghost use Rattle.vb_world.specs.Buckets.{bucket_data};
-ghost use Rattle.vb_world.specs.World.{slot_of, bucket_of, home_of, place_at, changed_at, put_place};
+ghost use Rattle.vb_world.specs.World.{bucket_of, home_of, place_at, changed_at, put_place};
 
 use crate::origin::Origin;
-use ep_model::{Config, NoMemory, PartName};
+use ep_model::NoMemory;
 use std::alloc::Global;
 use std::mem;
 
@@ -22,18 +22,6 @@ pub enum Place<P> {
 pub struct Bucket<P> {
     pub origin: Origin,
     pub places: Vec<Place<P>>,
-}
-
-// The place of a part among those of its vBucket.
-pub fn slot_of(config: &Config, part: PartName) -> usize
-    ensures { result ≡ slot_of config.now part }
-{
-    let stripes = usize::from(config.stripes);
-    match part {
-        PartName::Stripe(stripe) => usize::from(stripe),
-        PartName::Queue => stripes,
-        PartName::Desk => stripes + 1,
-    }
 }
 
 // A vBucket whose parts are at home.

@@ -12,9 +12,9 @@ use crate::event_log;
 use crate::event_log::EventLog;
 use crate::history::History;
 use crate::origin::Origin;
-use crate::place::{Bucket, Place, bucket_of, put_at, slot_of, take_at};
+use crate::place::{Bucket, Place, bucket_of, put_at, take_at};
 use ep_model::{Busy, Config, Event, NoMemory, PartName};
-use hold_stage::{Beginning, Stands};
+use hold_stage::{Beginning, Stands, slot_of};
 use std::alloc::Global;
 use std::marker::Model;
 

@@ -3,7 +3,7 @@ use Rattle.ep_model.specs.declared.config.Config.{Config}
 use Rattle.turn_stage.specs.declared.data.View.{View}
 use Rattle.hold_stage.specs.Slots.{slot_of}
 use Rattle.turn_stage.specs.Seats.{all_there}
-use Rattle.turn_stage.proofs.Parts.{slot_within}
+use Rattle.hold_stage.proofs.SlotLemmas.{slot_within}
 use Rattle.turn_stage.proofs.Rests.{resting, held_there, there_less}
 use Rattle.turn_stage.proofs.table.Turns.give.Goals as goal
 
