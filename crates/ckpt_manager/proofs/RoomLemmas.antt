@@ -1,8 +1,8 @@
 -- Which items may go, and whether another fits.
-use Rattle.std.proofs.Common.{◌≡◌, ℕ, suc, zero, ◌+◌, ◌<◌, ◌≤◌, min, Bool, true, false, not, cond, List, [], ◌∷◌, ◌++◌, length, take, drop, Some, None, refl, sym, ap, subst, ◌∙◌, arith, append_assoc}
+use Rattle.std.proofs.Common.{◌≡◌, ℕ, suc, zero, ◌+◌, ◌-◌, ◌<◌, ◌≤◌, min, Bool, true, false, not, cond, List, [], ◌∷◌, ◌++◌, length, take, drop, Some, None, refl, sym, ap, subst, ◌∙◌, arith, append_assoc}
 use Rattle.std.specs.Prelude.{filter, nat_eq, nat_lt, All}
 use Rattle.std.specs.List.{find}
-use Rattle.std.proofs.lemmas.List.{append-nil, drop-drop}
+use Rattle.std.proofs.lemmas.List.{append-nil, drop-drop, length-drop}
 use Rattle.std.proofs.lemmas.List.Elements.{All-nil, All-cons, All-append, All-head, All-tail, All-weaker, All-filter, All-drop, filter-append}
 use Rattle.std.proofs.lemmas.List.Sums.{sum_by-append, sum_by-cons}
 use Rattle.std.proofs.lemmas.List.Filters.{sum_by-filter_both}
@@ -12,7 +12,7 @@ use Rattle.ep_model.specs.declared.call.Meta.{Meta}
 use Rattle.ckpt_items.specs.declared.data.ItemData.{ItemData}
 use Rattle.ckpt_items.specs.Items.{blocks_of, item_blocks, is_of, is_above, number_of, without_number}
 use Rattle.ckpt_manager.specs.declared.data.QueueData.{QueueData}
-use Rattle.ckpt_manager.specs.Queue.{held, kept, free_blocks, items_above, closed, thinned, put_last, queued, stored, moved_up, item_of, without_key, kept_with, last_of, last_above, replaced_blocks, CanHold, lowest, least_cursor, Expelled, ExpelsOne}
+use Rattle.ckpt_manager.specs.Queue.{held, kept, free_blocks, items_above, closed, thinned, put_last, queued, stored, moved_up, item_of, without_key, kept_with, last_of, last_above, replaced_blocks, CanHold, lowest, least_cursor, Expelled, NoneTooMany, ExpelsOne}
 use Rattle.ckpt_manager.specs.Sound.{RiseAbove, IsSoundQueue}
 use Rattle.ckpt_manager.proofs.ItemLemmas.{rise-all, rise-weaker, all-left, all-right, filter-all, none-filter, higher-stay}
 use Rattle.ckpt_manager.proofs.QueueLemmas.{WithinLimits, clear-cases}
@@ -154,6 +154,21 @@ pub expelled-then : (a b c : QueueData) → Expelled a b → ExpelsOne b c → E
 expelled-then a b c before one =
     expelled-next a before.count c before.passed (subst (λ (b : QueueData). ExpelsOne b c) before.after one)
 
+-- what was too little is not enough with one more gone but for that one
+none-count : (a : QueueData) (m : ℕ) (c : QueueData) (key : List ℕ) (len : ℕ) → ExpelsOne (record a { closed = drop m a.closed }) c
+    → (CanHold (record a { closed = drop m a.closed }) key len → ⊥) → NoneTooMany a (record a { closed = drop m a.closed }) key len
+    → (count : ℕ) → count + length c.closed < length a.closed → CanHold (record a { closed = drop count a.closed }) key len → ⊥
+none-count a m c key len one short before count below fits =
+    let some : 0 < length (drop m a.closed) = one.some in
+    let gone : length c.closed ≡ length (drop m a.closed) - 1 = ap (λ (q : QueueData). length q.closed) one.after ∙ length-drop 1 (drop m a.closed) in
+    let left : length (drop m a.closed) ≡ length a.closed - m = length-drop m a.closed in
+    elim (nat_lt count m) as (λ b. nat_lt count m ≡ b → ⊥) [
+      | true ↦ λ is. before count (let fewer : count < m = grind (arith, nat_tests) in omega (arith, fewer, some, left)) fits
+      | false ↦ λ is.
+          let same : count ≡ m = let least : m ≤ count = grind (arith, nat_tests) in omega (arith, least, below, gone, left, some) in
+          short (subst (λ (n : ℕ). CanHold (record a { closed = drop n a.closed }) key len) same fits)
+    ] refl
+
 -- the kept items are those that they were
 
 items_above-passed : (n : ℕ) (xs : List ItemData) → All (λ (i : ItemData). i.meta.seqno ≤ n) xs → items_above n xs ≡ []
@@ -178,6 +193,15 @@ kept-same a b key len e =
 
 pub replaced-same : (a b : QueueData) (key : List ℕ) → Expelled a b → replaced_blocks b key ≡ replaced_blocks a key
 replaced-same a b key e = ap (λ (q : QueueData). replaced_blocks q key) e.after
+
+-- so no more goes than has to
+pub none-then : (a b c : QueueData) (key : List ℕ) (len : ℕ) → Expelled a b → ExpelsOne b c
+    → free_blocks b + replaced_blocks a key < blocks (length key) + blocks len → NoneTooMany a b key len → NoneTooMany a c key len
+none-then a b c key len before one short least =
+    let tight : CanHold b key len → ⊥ = λ fits. absurd (omega (arith, short, replaced-same a b key before, fits)) in
+    none-count a before.count c key len (subst (λ (b : QueueData). ExpelsOne b c) before.after one)
+        (subst (λ (b : QueueData). CanHold b key len → ⊥) before.after tight)
+        (subst (λ (b : QueueData). NoneTooMany a b key len) before.after least)
 
 pub blocks-same : (a b : QueueData) → Expelled a b → b.blocks ≡ a.blocks
 blocks-same a b e = ap (λ (q : QueueData). q.blocks) e.after

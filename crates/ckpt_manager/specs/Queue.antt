@@ -84,6 +84,15 @@ pub record Expelled (old new : QueueData) : Type 0 where
   pub passed : All (λ (i : ItemData). i.meta.seqno ≤ least_cursor old) (take count old.closed)
   pub after : new ≡ record old { closed = drop count old.closed }
 
+-- no more went than had to: with fewer of them gone there is no room for an item of this key with so many bytes of value
+abbrev pub NoneTooMany : QueueData → QueueData → List ℕ → ℕ → Type 0
+NoneTooMany old new key len = (count : ℕ) → count + length new.closed < length old.closed
+    → CanHold (record old { closed = drop count old.closed }) key len → ⊥
+
+-- every cursor has passed none of the items
+abbrev pub NonePassed : QueueData → Type 0
+NonePassed q = All (λ (i : ItemData). least_cursor q < i.meta.seqno) (held q)
+
 -- the oldest item goes, which every cursor has passed
 pub record ExpelsOne (old new : QueueData) : Type 0 where
   pub some : 0 < length old.closed
@@ -93,7 +102,7 @@ pub record ExpelsOne (old new : QueueData) : Type 0 where
 -- some cursor stands below all items
 pub record ExpelsNone (old new : QueueData) : Type 0 where
   pub same : new ≡ old
-  pub ahead : All (λ (i : ItemData). least_cursor old < i.meta.seqno) (held old)
+  pub ahead : NonePassed old
 
 abbrev pub closed_if_any : QueueData → QueueData
 closed_if_any q = if length q.last == 0 then q else closed q

@@ -64,7 +64,7 @@ fn blocks_of_item(key: &[u8], len: u32) -> u32
 
 impl Queue {
     ghost use Rattle.std.specs.Prelude.{◌≡◌, ◌≤◌, ◌<◌, ◌+◌, ◌-◌, ◌^◌, ◌↔◌, [], true, false, length};
-    ghost use Rattle.std.specs.Prelude.{IsErr, IfOk, IfErr, OnOk, MatchBool, None};
+    ghost use Rattle.std.specs.Prelude.{IsErr, IfOk, IfErr, OnOk, OnErr, MatchBool, None};
     ghost use Rattle.ep_model.specs.Config.{config_fault};
     ghost use Rattle.ep_model.specs.Limits.{IsKey, IsValue, end_of_moments};
     ghost use Rattle.ep_model.specs.Plain.{IsSound};
@@ -72,7 +72,7 @@ impl Queue {
     ghost use Rattle.ckpt_items.specs.Items.{blocks_of as blocks_of_items};
     ghost use Rattle.ckpt_manager.specs.Sound.{IsSoundQueue};
     ghost use Rattle.ckpt_manager.specs.Queue.{held, kept, free_blocks, closed, closed_if_any, cleared, queued, item_of};
-    ghost use Rattle.ckpt_manager.specs.Queue.{kept_with, replaced_blocks, CanHold, Expelled, ExpelsOne, ExpelsNone};
+    ghost use Rattle.ckpt_manager.specs.Queue.{kept_with, replaced_blocks, CanHold, Expelled, NoneTooMany, NonePassed, ExpelsOne, ExpelsNone};
     ghost use Rattle.ckpt_manager.specs.Queue.{stored, begun, fresh, least_cursor, LastIs, LastStays, ReadsOn};
 
     /// The queue of an active vBucket that hasn't opened and has no mutation yet. Its cost is linear in the checkpoints'
@@ -134,6 +134,8 @@ impl Queue {
             short.free ≡ free_blocks self.new + replaced_blocks self.new key.now) }
         ensures need { IfErr result (λ short. short.need ≡ blocks (length key.now) + blocks len) }
         ensures expelled { Expelled self.old self.new }
+        ensures least { NoneTooMany self.old self.new key.now len }
+        ensures left { OnErr result (NonePassed self.new) }
         ensures same { CanHold self.old key.now len → self.new ≡ self.old }
         ensures last { LastStays self.old self.new }
     {

@@ -1,8 +1,8 @@
-use Rattle.std.proofs.Common.{◌<◌, ◌≤◌, ◌+◌, ◌≡◌, ◌∙◌, ap, ℕ, List, rules, refl, arith, length}
+use Rattle.std.proofs.Common.{◌<◌, ◌≤◌, ◌+◌, ◌≡◌, ◌∙◌, ap, sym, subst, ℕ, List, rules, refl, arith, length}
 use Rattle.ep_model.specs.World.{blocks}
 use Rattle.ckpt_manager.specs.declared.data.QueueData.{QueueData}
-use Rattle.ckpt_manager.specs.Queue.{CanHold, free_blocks, replaced_blocks, last_above, ExpelsOne, ExpelsNone}
-use Rattle.ckpt_manager.proofs.RoomLemmas.{expelled-then, last-expelled, replaced-same}
+use Rattle.ckpt_manager.specs.Queue.{CanHold, free_blocks, replaced_blocks, last_above, ExpelsOne, ExpelsNone, NoneTooMany, NonePassed}
+use Rattle.ckpt_manager.proofs.RoomLemmas.{expelled-then, none-then, last-expelled, replaced-same}
 use Rattle.ckpt_manager.proofs.CallLemmas.{free-fits, room-fits, room-short}
 use Rattle.ckpt_manager.proofs.queue.Queue.room_for.Goals as goal
 
@@ -36,6 +36,7 @@ loop-len-preserved c =
       λ (fits : CanHold c.args.self.now c.args.key.now c.args.len).
           let same : free_blocks c.loop-len.self ≡ free_blocks c.args.self.now = ap (λ (q : QueueData). free_blocks q) (c.loop-len.invariant.3 fits) in
           absurd (omega (arith, short, same, fits)),
+      none-then c.args.self.now c.loop-len.self c.expel.new.self c.args.key.now c.args.len c.loop-len.invariant.0 one short c.loop-len.invariant.4,
     )
 
 pub returns-then-need-free-clause-same : goal.returns-then-need-free-clause-same
@@ -64,4 +65,17 @@ returns-then-not-expel-clause-free c =
     omega (arith, same, c.free.ensures.free, c.loop-len.invariant.2, replaced-same c.args.self.now c.loop-len.self c.args.key.now c.loop-len.invariant.0)
 
 pub loop-len-init : goal.loop-len-init
-loop-len-init c = (search rules, search rules, search rules, λ (_ : CanHold c.args.self.now c.args.key.now c.args.len). refl)
+loop-len-init c = (search rules, search rules, search rules, λ (_ : CanHold c.args.self.now c.args.key.now c.args.len). refl, λ (count : ℕ) below fits. absurd (omega (arith, below)))
+
+pub returns-then-need-free-clause-least : goal.returns-then-need-free-clause-least
+returns-then-need-free-clause-least c = c.loop-len.invariant.4
+
+pub returns-then-not-expel-clause-least : goal.returns-then-not-expel-clause-least
+returns-then-not-expel-clause-least c =
+    let none : ExpelsNone c.loop-len.self c.expel.new.self = search rules in
+    subst (λ (q : QueueData). NoneTooMany c.args.self.now q c.args.key.now c.args.len) (sym none.same) c.loop-len.invariant.4
+
+pub returns-then-not-expel-clause-left : goal.returns-then-not-expel-clause-left
+returns-then-not-expel-clause-left c =
+    let none : ExpelsNone c.loop-len.self c.expel.new.self = search rules in
+    subst NonePassed (sym none.same) none.ahead
