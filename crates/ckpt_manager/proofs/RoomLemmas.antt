@@ -200,8 +200,8 @@ pub none-then : (a b c : QueueData) (key : List ℕ) (len : ℕ) → Expelled a 
 none-then a b c key len before one short least =
     let tight : CanHold b key len → ⊥ = λ fits. absurd (omega (arith, short, replaced-same a b key before, fits)) in
     none-count a before.count c key len (subst (λ (b : QueueData). ExpelsOne b c) before.after one)
-        (subst (λ (b : QueueData). CanHold b key len → ⊥) before.after tight)
-        (subst (λ (b : QueueData). NoneTooMany a b key len) before.after least)
+    (subst (λ (b : QueueData). CanHold b key len → ⊥) before.after tight)
+    (subst (λ (b : QueueData). NoneTooMany a b key len) before.after least)
 
 pub blocks-same : (a b : QueueData) → Expelled a b → b.blocks ≡ a.blocks
 blocks-same a b e = ap (λ (q : QueueData). q.blocks) e.after

@@ -13,7 +13,7 @@ use std::marker::Model;
 /// The mutations of a vBucket on their way to the store, in checkpoints as kv_engine has them, and the vBucket's
 /// numbers. A checkpoint has one item a key, the last, and at most so many keys as the layout says. Who reads the items
 /// is known by cursors: that of the flusher, its backup at the persisted number, and named ones. All memory is taken by
-/// `new`.
+/// `new`. A call that names no cost has a constant one.
 #[derive(Drop)]
 pub struct Queue {
     items: Items,
@@ -291,7 +291,7 @@ impl Queue {
         }
     }
 
-    /// The number of the first item above this one.
+    /// The number of the first item above this one. Its cost is logarithmic in the number of items.
     pub fn take_from(&self, seqno: u64) -> Option<u64>
         ensures { ReadsOn seqno (held self.now) result }
     {

@@ -3,20 +3,21 @@ use std::alloc::{AllocError, Global};
 use value_pool::{Chain, Pool, Short, blocks};
 
 // What is free after each call, and what chains have, where a list of 300 bytes is one block too long.
-fn told(pool: &mut Pool) -> Result<[u32; 6], Short> {
+fn told(pool: &mut Pool) -> Result<[u32; 8], Short> {
     let bytes = [7u8; 300];
     let nothing = pool.put(&bytes[..0])?;
     let at_first = pool.free();
     let two = pool.put(&bytes[..129])?;
     let between = pool.free();
     let (len, none) = (pool.len(&two), pool.len(&nothing));
-    let need = match pool.put(&bytes) {
-        Ok(_) => 0,
-        Err(short) => short.need,
+    let last = pool.piece(&two, 1).len() as u32;
+    let (free, need) = match pool.put(&bytes) {
+        Ok(_) => (0, 0),
+        Err(short) => (short.free, short.need),
     };
     pool.take_back(two);
     pool.take_back(nothing);
-    Ok([at_first, between, len, none, need, pool.free()])
+    Ok([at_first, between, len, none, last, free, need, pool.free()])
 }
 
 // Whether a pool of four blocks tells what it should.
@@ -24,7 +25,7 @@ fn is_told(alloc: Global) -> bool {
     let Ok(mut pool) = Pool::new(alloc, 4) else {
         return false;
     };
-    told(&mut pool) == Ok([4, 2, 129, 0, 3, 4])
+    told(&mut pool) == Ok([4, 2, 129, 0, 1, 2, 3, 4])
 }
 
 #[test]
