@@ -10,6 +10,3 @@ mod places;
 pub use book::{Book, BookFull};
 pub use key::Key;
 pub use place::{Outcome, Place};
-
-#[cfg(test)]
-mod tests;

@@ -15,6 +15,4 @@ pub use stripe::Stripe;
 pub use value_pool::Short;
 
 #[cfg(test)]
-mod plain;
-#[cfg(test)]
 mod tests;

@@ -6,6 +6,3 @@ mod slots;
 
 pub use node::Node;
 pub use slots::Slots;
-
-#[cfg(test)]
-mod tests;

@@ -1,5 +1,5 @@
 // A stripe as a plain program has it, to be compared with.
-use crate::tests::meta;
+use super::meta;
 use crate::{Counts, Found};
 use ep_model::Eviction;
 
@@ -15,7 +15,7 @@ struct Document {
 
 /// Slots for eight keys of one byte, and forty blocks.
 #[derive(Drop)]
-pub(crate) struct Plain {
+pub struct Plain {
     slots: [Option<Document>; 8],
     eviction: Eviction,
     mark: u64,
@@ -30,7 +30,7 @@ fn blocks(document: Document) -> u32 {
 }
 
 impl Plain {
-    pub(crate) fn new(eviction: Eviction) -> Plain {
+    pub fn new(eviction: Eviction) -> Plain {
         Plain {
             slots: [None; 8],
             eviction,
@@ -49,7 +49,7 @@ impl Plain {
         None
     }
 
-    pub(crate) fn find(&self, key: u8) -> Found {
+    pub fn find(&self, key: u8) -> Found {
         match self.document(key) {
             None => Found::Nothing,
             Some(document) => {
@@ -63,7 +63,7 @@ impl Plain {
         }
     }
 
-    pub(crate) fn age(&self, key: u8) -> Option<u8> {
+    pub fn age(&self, key: u8) -> Option<u8> {
         match self.document(key) {
             None => None,
             Some(document) => Some(document.age),
@@ -71,7 +71,7 @@ impl Plain {
     }
 
     /// The blocks that no other key's document takes.
-    pub(crate) fn free_for(&self, key: u8) -> u32 {
+    pub fn free_for(&self, key: u8) -> u32 {
         let mut free = 40u32;
         for slot in self.slots {
             if let Some(document) = slot {
@@ -83,7 +83,7 @@ impl Plain {
         free
     }
 
-    pub(crate) fn counts(&self) -> Counts {
+    pub fn counts(&self) -> Counts {
         let mut resident = 0u32;
         let mut ejected = 0u32;
         for slot in self.slots {
@@ -134,7 +134,7 @@ impl Plain {
     }
 
     /// Ejects a document that is resident and stored.
-    pub(crate) fn eject(&mut self, key: u8) {
+    pub fn eject(&mut self, key: u8) {
         for slot in 0..8usize {
             if let Some(document) = self.slots[slot] {
                 if document.key == key && document.is_resident && document.seqno <= self.mark {
@@ -161,7 +161,7 @@ impl Plain {
     }
 
     /// Puts a document where it fits, after others are ejected.
-    pub(crate) fn put(&mut self, key: u8, seqno: u64, len: u32) -> bool {
+    pub fn put(&mut self, key: u8, seqno: u64, len: u32) -> bool {
         let document = Document {
             key,
             seqno,
@@ -183,12 +183,12 @@ impl Plain {
         false
     }
 
-    pub(crate) fn mark(&mut self, number: u64) {
+    pub fn mark(&mut self, number: u64) {
         self.mark = number;
     }
 
     /// Gives the documents of a key this age, or makes each one older.
-    pub(crate) fn set_ages(&mut self, heated: Option<u8>) {
+    pub fn set_ages(&mut self, heated: Option<u8>) {
         for slot in 0..8usize {
             if let Some(document) = self.slots[slot] {
                 let age = match heated {
