@@ -44,7 +44,7 @@ impl Model for Book {
 impl Book {
     ghost use Rattle.std.specs.Prelude.{◌≡◌, ◌+◌, ◌≤◌, ◌++◌, [], true, length, is_err, is_some, IfOk, OnOk, OnErr, IfSome};
     ghost use Rattle.std.specs.List.{All};
-    ghost use Rattle.ep_model.specs.Limits.{IsKey};
+    ghost use Rattle.ep_model.specs.Limits.{max_key, IsKey};
     ghost use Rattle.fetch_book.specs.declared.place.Place.{Place};
     ghost use Rattle.fetch_book.specs.Places.{is_waiting, place_at, first_waiting, settled, forgotten, released};
     ghost use Rattle.fetch_book.specs.Books.{BookData, IsBook, is_full, next_ticket, asked, ticket_of, key_of, outcome_of};
@@ -145,7 +145,7 @@ impl Book {
     pub fn used(&self) -> u32
         ensures used { result ≡ length self.now.places }
         ensures sound { IsBook self.now }
-        ensures fits { length (key_of (first_waiting self.now.places)) ≤ 250 }
+        ensures fits { length (key_of (first_waiting self.now.places)) ≤ max_key }
     {
         self.places.len() as u32
     }

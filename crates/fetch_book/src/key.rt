@@ -14,12 +14,13 @@ pub struct Key {
 
 impl Model for Key {
     ghost use Rattle.std.specs.Prelude.{ℕ, List, take, ◌≤◌};
+    ghost use Rattle.ep_model.specs.Limits.{max_key};
 
     ghost Value = { List ℕ };
 
     ghost view = { λ k. take k.len k.bytes };
 
-    ghost invariant = { λ k. (1 ≤ k.len) × (k.len ≤ 250) };
+    ghost invariant = { λ k. (1 ≤ k.len) × (k.len ≤ max_key) };
 }
 
 impl Key {

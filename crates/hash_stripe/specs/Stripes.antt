@@ -5,7 +5,8 @@ use Rattle.std.specs.Option.{is_some}
 use Rattle.ep_model.specs.declared.call.Meta.{Meta}
 use Rattle.ep_model.specs.declared.call.VbState.{VbState}
 use Rattle.ep_model.specs.declared.config.Eviction.{Eviction}
-use Rattle.ep_model.specs.Limits.{IsKey}
+use Rattle.ep_model.specs.Config.{max_blocks}
+use Rattle.ep_model.specs.Limits.{max_value, IsKey, IsValue}
 use Rattle.ep_model.specs.Stripes.{stripe_of}
 use Rattle.hash_stripe.specs.declared.found.Found.{Found}
 use Rattle.hash_stripe.specs.declared.found.Found.TheVariants.{Nothing, Ejected, Resident}
@@ -33,8 +34,8 @@ Fits key need slots = others_blocks key slots + need ≤ length slots
 -- A value is within the limit, and as long as its document's metadata says; a tombstone's is empty. The metadata says
 -- that of a value which isn't there too.
 abbrev pub IsValueOf : Meta → Option (List ℕ) → Type 0
-IsValueOf meta None = (meta.deleted ≡ false) × (meta.len ≤ 1048576)
-IsValueOf meta (Some value) = (length value ≤ 1048576) × (meta.len ≡ length value) × (meta.deleted ≡ true → value ≡ [])
+IsValueOf meta None = (meta.deleted ≡ false) × (meta.len ≤ max_value)
+IsValueOf meta (Some value) = IsValue value × (meta.len ≡ length value) × (meta.deleted ≡ true → value ≡ [])
 
 -- What is so of each node: its key is of this stripe, and one without a value is clean and there under value eviction
 -- alone.
@@ -68,7 +69,7 @@ AreApart (slot ∷ slots) = IsApart slot slots × AreApart slots
 -- what is so of every stripe
 pub record IsStripe (s : StripeData) : Type 0 where
   pub place : s.index < s.stripes
-  pub few : length s.slots ≤ 16777216
+  pub few : length s.slots ≤ max_blocks
   pub room : used s.slots ≤ length s.slots
   pub nodes : AreSlots s.index s.stripes s.eviction s.mark s.slots
   pub apart : AreApart s.slots

@@ -1,6 +1,6 @@
 // Room for a document, made by ejecting others.
 ghost use Rattle.std.specs.Prelude.{◌≡◌, ◌+◌, ◌<◌, ◌≤◌, ◌||◌, false, cond, length, map, count_by, None, nat_le};
-ghost use Rattle.ep_model.specs.Limits.{IsKey};
+ghost use Rattle.ep_model.specs.Limits.{max_value, IsKey, IsValue};
 ghost use Rattle.value_pool.specs.Pools.{blocks_of};
 ghost use Rattle.hash_stripe.specs.Nodes.{is_full_eviction, is_keyed, slot_pinned, others_pinned, at, used, others_blocks, victim, eject_at, EjectsOthers, slot_of, placed, cooled, is_resident, is_ejected};
 ghost use Rattle.hash_stripe.specs.Stripes.{Fits, AreApart, AreKeyed};
@@ -40,7 +40,7 @@ pub(crate) fn eject(table: &mut Table, eviction: Eviction, slot: u32)
 /// How many blocks a document takes with this key and a value of this length.
 pub(crate) fn document_blocks(key: &[u8], len: u32) -> u32
     requires key { IsKey key.now }
-    requires len { len ≤ 1048576 }
+    requires len { len ≤ max_value }
     ensures { result ≡ blocks_of (length key.now) + blocks_of len }
 {
     (rules::blocks(key.len()) + rules::blocks(len as usize)) as u32
@@ -118,6 +118,7 @@ fn pinned_beside(table: &Table, eviction: Eviction, mark: u64, slot: u32, key: &
 pub(crate) fn others_pinned(table: &Table, eviction: Eviction, mark: u64, key: &[u8]) -> u32
     ensures { result ≡ others_pinned eviction mark key.now table.now }
 {
+    // tells that the slots are few, so that the sum is within its type
     let _free = table.free();
     let mut pinned = 0;
     for slot in 0..table.count() {
@@ -129,7 +130,7 @@ pub(crate) fn others_pinned(table: &Table, eviction: Eviction, mark: u64, key: &
 /// Puts a document in place of its key's node, or into the first empty slot, where its blocks fit.
 pub(crate) fn put(table: &mut Table, key: &[u8], meta: Meta, value: &[u8])
     requires key { IsKey key.now }
-    requires value { length value.now ≤ 1048576 }
+    requires value { IsValue value.now }
     requires apart { AreApart table.old }
     requires keyed { AreKeyed table.old }
     requires fits { Fits key.now (blocks_of (length key.now) + blocks_of (length value.now)) table.old }

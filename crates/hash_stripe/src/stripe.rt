@@ -51,7 +51,7 @@ impl Stripe {
     ghost use Rattle.std.specs.Prelude.{◌≡◌, ◌≢◌, ℕ, Option, ◌+◌, ◌-◌, ◌<◌, ◌≤◌, ◌++◌, [], true, false, length, drop, map, count_by, replicate, nat_lt, None, Some, is_err, is_some, IfOk, IfErr, OnOk, OnErr};
     ghost use Rattle.std.specs.Option.{ForSome};
     ghost use Rattle.value_pool.specs.Pools.{blocks_of};
-    ghost use Rattle.ep_model.specs.Limits.{IsKey};
+    ghost use Rattle.ep_model.specs.Limits.{max_key, max_value, IsKey, IsValue};
     ghost use Rattle.ep_model.specs.Config.{config_fault};
     ghost use Rattle.ep_model.specs.Stripes.{stripe_of};
     ghost use Rattle.hash_stripe.specs.Nodes.{NodeData, at, used, node_at, node_in, is_ejectable_slot, others_blocks, others_pinned, victim, EjectsOthers, Restores, placed, eject_slot, heated, cooled, is_resident, is_ejected};
@@ -139,7 +139,7 @@ impl Stripe {
     /// [`Short`] exactly where the blocks that no ejecting frees leave too few for the document.
     pub fn room_for(&mut self, key: &[u8], len: u32) -> Result<(), Short>
         requires key { IsKey key.now }
-        requires len { len ≤ 1048576 }
+        requires len { len ≤ max_value }
         ensures short { is_err result ≡ nat_lt (length self.old.slots) (others_pinned self.old.eviction self.old.mark
             key.now self.old.slots + (blocks_of (length key.now) + blocks_of len)) }
         ensures ejects { EjectsOthers self.old.eviction self.old.mark key.now
@@ -166,7 +166,7 @@ impl Stripe {
     pub fn place(&mut self, key: &[u8], meta: Meta, value: &[u8])
         requires key { IsKey key.now }
         requires home { stripe_of key.now self.old.stripes ≡ self.old.index }
-        requires value { length value.now ≤ 1048576 }
+        requires value { IsValue value.now }
         requires len { meta.len ≡ length value.now }
         requires tombstone { meta.deleted ≡ true → value.now ≡ [] }
         requires fits { Fits key.now (blocks_of (length key.now) + blocks_of (length value.now)) self.old.slots }
@@ -186,7 +186,7 @@ impl Stripe {
     pub fn restore(&mut self, key: &[u8], meta: Meta, value: &[u8]) -> Result<(), Short>
         requires key { IsKey key.now }
         requires home { stripe_of key.now self.old.stripes ≡ self.old.index }
-        requires value { length value.now ≤ 1048576 }
+        requires value { IsValue value.now }
         requires len { meta.len ≡ length value.now }
         requires tombstone { meta.deleted ≡ true → value.now ≡ [] }
         requires stored { meta.seqno ≤ self.old.mark }
@@ -224,7 +224,7 @@ impl Stripe {
         requires home { stripe_of key.now self.old.stripes ≡ self.old.index }
         requires stored { meta.seqno ≤ self.old.mark }
         requires live { meta.deleted ≡ false }
-        requires len { meta.len ≤ 1048576 }
+        requires len { meta.len ≤ max_value }
         requires absent { node_at self.old.slots key.now ≡ None }
         ensures short { is_err result ≡ nat_lt (free_of self.old) (blocks_of (length key.now)) }
         ensures ok { OnOk result (self.new ≡ record self.old {
@@ -299,7 +299,7 @@ impl Stripe {
     pub fn free(&self) -> u32
         ensures free { result ≡ free_of self.now }
         ensures sound { IsStripe self.now }
-        ensures keys { (slot : Option ℕ) → length (key_of (node_in self.now.slots slot)) ≤ 250 }
+        ensures keys { (slot : Option ℕ) → length (key_of (node_in self.now.slots slot)) ≤ max_key }
     {
         self.table.free()
     }

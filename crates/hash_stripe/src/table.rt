@@ -1,5 +1,6 @@
 // Nodes in slots, with their bytes in a pool.
 ghost use Rattle.std.specs.Prelude.{◌≡◌, ◌+◌, ◌≤◌, ◌++◌, length, take, drop, MatchOption};
+ghost use Rattle.ep_model.specs.Limits.{max_key, IsValue};
 ghost use Rattle.value_pool.specs.Pools.{blocks_of, bytes_at, Puts, TakesBack};
 ghost use Rattle.stored_value.specs.Ages.{older};
 
@@ -33,7 +34,8 @@ impl Model for Table {
 impl Table {
     ghost use Rattle.std.specs.Prelude.{◌≡◌, ◌+◌, ◌<◌, ◌≤◌, ◌++◌, length, drop, None, Some, IfOk, slice_set, replicate};
     ghost use Rattle.std.specs.Option.{ForSome};
-    ghost use Rattle.ep_model.specs.Limits.{IsKey};
+    ghost use Rattle.ep_model.specs.Config.{max_blocks};
+    ghost use Rattle.ep_model.specs.Limits.{max_key, IsKey, IsValue};
     ghost use Rattle.hash_stripe.specs.Nodes.{used, at, slot_blocks, is_keyed, first_empty, heated, cooled};
     ghost use Rattle.value_pool.specs.Pools.{all_free};
     ghost use Rattle.hash_stripe.specs.Looks.{look_of, without_value};
@@ -41,7 +43,7 @@ impl Table {
 
     /// So many empty slots, and as many free blocks. Its cost is linear in their number.
     pub(crate) fn new(alloc: Global, blocks: u32) -> Result<Table, NoMemory>
-        requires { blocks ≤ 16777216 }
+        requires { blocks ≤ max_blocks }
         ensures { IfOk result (λ table. table ≡ replicate blocks None) }
     {
         let Ok(pool) = Pool::new(alloc, blocks) else {
@@ -53,7 +55,7 @@ impl Table {
 
     /// The table of a pool and of slots, so many each, that nothing is in.
     fn over(pool: Pool, slots: Slots<Chain>, blocks: u32) -> Table
-        requires few { blocks ≤ 16777216 }
+        requires few { blocks ≤ max_blocks }
         requires pool { pool ≡ all_free blocks }
         requires slots { slots ≡ replicate blocks None }
         ensures { result ≡ replicate blocks None }
@@ -71,7 +73,7 @@ impl Table {
     /// How many blocks no node takes.
     pub(crate) fn free(&self) -> u32
         ensures free { result + used self.now ≡ length self.now }
-        ensures few { length self.now ≤ 16777216 }
+        ensures few { length self.now ≤ max_blocks }
     {
         self.pool.free()
     }
@@ -147,7 +149,7 @@ impl Table {
     /// Writes the key of a slot's node to the front of `into`, and answers its length.
     pub(crate) fn key_into(&self, slot: u32, into: &mut [u8; MAX_KEY]) -> Option<u8>
         requires slot { slot < length self.now }
-        requires room { length (key_of (at self.now slot)) ≤ 250 }
+        requires room { length (key_of (at self.now slot)) ≤ max_key }
         ensures len { result ≡ key_len_of (at self.now slot) }
         ensures key { into.new ≡ key_of (at self.now slot) ++ drop (length (key_of (at self.now slot))) into.old }
     {
@@ -230,7 +232,7 @@ impl Table {
         requires slot { slot < length self.old }
         requires empty { at self.old slot ≡ None }
         requires key { IsKey key.now }
-        requires value { length value.now ≤ 1048576 }
+        requires value { IsValue value.now }
         requires room { used self.old + (blocks_of (length key.now) + blocks_of (length value.now)) ≤ length self.old }
         ensures { self.new ≡ slice_set self.old slot
             (Some (record { key = key.now; meta = meta; value = Some value.now; age = 0 })) }
@@ -302,7 +304,7 @@ fn value_blocks(pool: &Pool, node: &Node<Chain>) -> u32
 
 /// Puts bytes for which there is room.
 fn put(pool: &mut Pool, bytes: &[u8]) -> Chain
-    requires len { length bytes.now ≤ 1048576 }
+    requires len { IsValue bytes.now }
     requires room { blocks_of (length bytes.now) ≤ pool.old.free }
     ensures { Puts pool.old pool.new result bytes.now }
 {
@@ -348,7 +350,7 @@ fn append(pool: &Pool, chain: &Chain, out: &mut Out)
 
 /// Writes bytes from `at` on.
 fn write_at(into: &mut [u8; MAX_KEY], at: usize, bytes: &[u8])
-    requires { at + length bytes.now ≤ 250 }
+    requires { at + length bytes.now ≤ max_key }
     ensures { into.new ≡ take at into.old ++ bytes.now ++ drop (at + length bytes.now) into.old }
 {
     into[at..at + bytes.len()].copy_from_slice(bytes);
@@ -356,7 +358,7 @@ fn write_at(into: &mut [u8; MAX_KEY], at: usize, bytes: &[u8])
 
 /// Writes the bytes of a chain to the front of `into`, and answers how many they are. Its cost is linear in their number.
 fn copy(pool: &Pool, chain: &Chain, into: &mut [u8; MAX_KEY]) -> u8
-    requires { length (bytes_at pool.now chain.now) ≤ 250 }
+    requires { length (bytes_at pool.now chain.now) ≤ max_key }
     ensures len { result ≡ length (bytes_at pool.now chain.now) }
     ensures bytes { into.new ≡ bytes_at pool.now chain.now ++ drop (length (bytes_at pool.now chain.now)) into.old }
 {
