@@ -8,7 +8,7 @@ use Rattle.std.proofs.lemmas.List.{set_past, get_or_past, get_or-set_same, get_o
 use Rattle.std.proofs.lemmas.Option.{slice_get_within, get_or_from_slice_get}
 use Rattle.value_pool.specs.Pools.{Held, blocks_of, all_free, Puts, TakesBack}
 use Rattle.hash_stripe.specs.Nodes.{NodeData, Slot, sum_of, used, slot_blocks}
-use Rattle.hash_stripe.specs.Chains.{Place, text, slot_in, slots_of, value_chains, place_chains, times, held_times, IsWhole, AreWhole, EachWhole, chain_blocks, IsKept}
+use Rattle.hash_stripe.specs.Chains.{NodePlace, text, slot_in, slots_of, value_chains, place_chains, times, held_times, IsWhole, AreWhole, EachWhole, chain_blocks, IsKept}
 
 -- a sum with another element
 pub sum_of-set : {X : Type 0} (count : X → ℕ) (xs : List X) (i : ℕ) (y d : X) → i < length xs → sum_of count (set xs i y) + count (get_or xs i d) ≡ sum_of count xs + count y
@@ -24,7 +24,7 @@ abbrev AreClear : List (List ℕ) → ℕ → List ℕ → Type 0
 AreClear texts c [] = Unit {0}
 AreClear texts c (d ∷ ds) = Clear texts c d × AreClear texts c ds
 
-abbrev EachClear : List (List ℕ) → ℕ → List Place → Type 0
+abbrev EachClear : List (List ℕ) → ℕ → List NodePlace → Type 0
 EachClear texts c [] = Unit {0}
 EachClear texts c (place ∷ places) = AreClear texts c (place_chains place) × EachClear texts c places
 
@@ -39,7 +39,7 @@ value-set : (texts : List (List ℕ)) (c : ℕ) (bytes : List ℕ) (value : Opti
 value-set texts c bytes None rest clear = (refl, clear)
 value-set texts c bytes (Some v) rest clear = (ap (λ (t : List ℕ). Some t) (text-set texts c v bytes clear.0), clear.1)
 
-slot-set : (texts : List (List ℕ)) (c : ℕ) (bytes : List ℕ) (place : Place) → AreClear texts c (place_chains place) → slot_in (set texts c bytes) place ≡ slot_in texts place
+slot-set : (texts : List (List ℕ)) (c : ℕ) (bytes : List ℕ) (place : NodePlace) → AreClear texts c (place_chains place) → slot_in (set texts c bytes) place ≡ slot_in texts place
 slot-set texts c bytes None clear = refl
 slot-set texts c bytes (Some node) clear =
     let v = value-set texts c bytes node.value (node.key ∷ []) clear in
@@ -47,7 +47,7 @@ slot-set texts c bytes (Some node) clear =
     ap (λ (k : List ℕ). one k (option_map (text (set texts c bytes)) node.value)) (text-set texts c node.key bytes v.1.0)
     ∙ ap (λ (w : Option (List ℕ)). one (text texts node.key) w) v.0
 
-slots-set : (texts : List (List ℕ)) (c : ℕ) (bytes : List ℕ) (places : List Place) → EachClear texts c places → slots_of (set texts c bytes) places ≡ slots_of texts places
+slots-set : (texts : List (List ℕ)) (c : ℕ) (bytes : List ℕ) (places : List NodePlace) → EachClear texts c places → slots_of (set texts c bytes) places ≡ slots_of texts places
 slots-set texts c bytes [] clear = refl
 slots-set texts c bytes (place ∷ places) clear =
     ap (λ (s : Slot). s ∷ slots_of (set texts c bytes) places) (slot-set texts c bytes place clear.0)
@@ -60,7 +60,7 @@ whole-set texts c bytes (d ∷ ds) clear whole = (
   whole-set texts c bytes ds clear.1 whole.1,
 )
 
-each-whole-set : (texts : List (List ℕ)) (c : ℕ) (bytes : List ℕ) (places : List Place) → EachClear texts c places → EachWhole texts places → EachWhole (set texts c bytes) places
+each-whole-set : (texts : List (List ℕ)) (c : ℕ) (bytes : List ℕ) (places : List NodePlace) → EachClear texts c places → EachWhole texts places → EachWhole (set texts c bytes) places
 each-whole-set texts c bytes [] clear whole = tt
 each-whole-set texts c bytes (place ∷ places) clear whole =
     (whole-set texts c bytes (place_chains place) clear.0 whole.0, each-whole-set texts c bytes places clear.1 whole.1)
@@ -80,7 +80,7 @@ fresh-clear texts c (d ∷ ds) fresh whole = (
   fresh-clear texts c ds fresh whole.1,
 )
 
-each-fresh-clear : (texts : List (List ℕ)) (c : ℕ) (places : List Place) → text texts c ≡ [] → EachWhole texts places → EachClear texts c places
+each-fresh-clear : (texts : List (List ℕ)) (c : ℕ) (places : List NodePlace) → text texts c ≡ [] → EachWhole texts places → EachClear texts c places
 each-fresh-clear texts c [] fresh whole = tt
 each-fresh-clear texts c (place ∷ places) fresh whole =
     (fresh-clear texts c (place_chains place) fresh whole.0, each-fresh-clear texts c places fresh whole.1)
@@ -99,7 +99,7 @@ zero-clear texts c (d ∷ ds) none = (
   zero-clear texts c ds (λ h. let e = none h in omega arith),
 )
 
-each-zero-clear : (texts : List (List ℕ)) (c : ℕ) (places : List Place) → (c < length texts → held_times c places ≡ 0) → EachClear texts c places
+each-zero-clear : (texts : List (List ℕ)) (c : ℕ) (places : List NodePlace) → (c < length texts → held_times c places ≡ 0) → EachClear texts c places
 each-zero-clear texts c [] none = tt
 each-zero-clear texts c (place ∷ places) none = (
   zero-clear texts c (place_chains place) (λ h. let e = none h in omega arith),
@@ -116,7 +116,7 @@ clear-zero texts c (d ∷ ds) inside clear =
       | false ↦ λ is. omega arith
     ] refl
 
-each-clear-zero : (texts : List (List ℕ)) (c : ℕ) (places : List Place) → c < length texts → EachClear texts c places → held_times c places ≡ 0
+each-clear-zero : (texts : List (List ℕ)) (c : ℕ) (places : List NodePlace) → c < length texts → EachClear texts c places → held_times c places ≡ 0
 each-clear-zero texts c [] inside clear = refl
 each-clear-zero texts c (place ∷ places) inside clear =
     let here = clear-zero texts c (place_chains place) inside clear.0 in
@@ -147,12 +147,12 @@ same-set texts c bytes [] clear = tt
 same-set texts c bytes (d ∷ ds) clear = (text-set texts c d bytes clear.0, same-set texts c bytes ds clear.1)
 
 -- what a step on the pool leaves: the nodes are as they were, and so are the chains that stay loose
-pub record Leaves (p q : Held) (places : List Place) (kept loose : List ℕ) : Type 0 where
+pub record Leaves (p q : Held) (places : List NodePlace) (kept loose : List ℕ) : Type 0 where
   pub stands : IsKept q places loose
   pub slots : slots_of q.texts places ≡ slots_of p.texts places
   pub same : AreSame p.texts q.texts kept
 
-put-apart : (p : Held) (places : List Place) (loose : List ℕ) (c d : ℕ) → IsKept p places loose → EachClear p.texts c places → AreClear p.texts c loose → d < length p.texts → held_times d places + times d (c ∷ loose) ≤ 1
+put-apart : (p : Held) (places : List NodePlace) (loose : List ℕ) (c d : ℕ) → IsKept p places loose → EachClear p.texts c places → AreClear p.texts c loose → d < length p.texts → held_times d places + times d (c ∷ loose) ≤ 1
 put-apart p places loose c d kept clear loose-clear inside =
     let before = kept.apart d inside in
     elim (nat_eq c d) as (λ b. nat_eq c d ≡ b → held_times d places + (cond b 1 0 + times d loose) ≤ 1) [
@@ -164,7 +164,7 @@ put-apart p places loose c d kept clear loose-clear inside =
       | false ↦ λ is. omega arith
     ] refl
 
-put-kept : (p : Held) (free : ℕ) (places : List Place) (loose : List ℕ) (c : ℕ) (bytes : List ℕ) → IsKept p places loose → free + blocks_of (length bytes) ≡ p.free → text p.texts c ≡ [] → ((bytes ≡ [] → ⊥) → c < length p.texts) → (bytes ≡ [] → c ≡ length p.texts) → Leaves p (record { texts = set p.texts c bytes; free = free }) places loose (c ∷ loose)
+put-kept : (p : Held) (free : ℕ) (places : List NodePlace) (loose : List ℕ) (c : ℕ) (bytes : List ℕ) → IsKept p places loose → free + blocks_of (length bytes) ≡ p.free → text p.texts c ≡ [] → ((bytes ≡ [] → ⊥) → c < length p.texts) → (bytes ≡ [] → c ≡ length p.texts) → Leaves p (record { texts = set p.texts c bytes; free = free }) places loose (c ∷ loose)
 put-kept p free places loose c bytes kept free-is fresh within empty =
     let clear = each-fresh-clear p.texts c places fresh kept.whole in
     let loose-clear = fresh-clear p.texts c loose fresh kept.loose_whole in
@@ -188,26 +188,26 @@ put-kept p free places loose c bytes kept free-is fresh within empty =
     }
 
 -- a chain is put
-pub puts-kept : (p q : Held) (places : List Place) (loose : List ℕ) (c : ℕ) (bytes : List ℕ) → IsKept p places loose → Puts p q c bytes → Leaves p q places loose (c ∷ loose) × (text q.texts c ≡ bytes)
+pub puts-kept : (p q : Held) (places : List NodePlace) (loose : List ℕ) (c : ℕ) (bytes : List ℕ) → IsKept p places loose → Puts p q c bytes → Leaves p q places loose (c ∷ loose) × (text q.texts c ≡ bytes)
 puts-kept p q places loose c bytes kept puts = (
   subst (λ (ts : List (List ℕ)). Leaves p (record { texts = ts; free = q.free }) places loose (c ∷ loose)) (sym puts.texts)
       (put-kept p q.free places loose c bytes kept puts.free puts.fresh puts.within puts.empty),
   ap (λ (ts : List (List ℕ)). text ts c) puts.texts ∙ put-text p.texts c bytes puts.within puts.empty,
 )
 
-back-places : (p : Held) (places : List Place) (loose : List ℕ) (c : ℕ) → IsKept p places (c ∷ loose) → c < length p.texts → held_times c places ≡ 0
+back-places : (p : Held) (places : List NodePlace) (loose : List ℕ) (c : ℕ) → IsKept p places (c ∷ loose) → c < length p.texts → held_times c places ≡ 0
 back-places p places loose c kept inside =
     let few = kept.apart c inside in
     let here : cond {A = ℕ} (nat_eq c c) 1 0 ≡ 1 = ap (λ (b : Bool). cond {A = ℕ} b 1 0) (eq-eqb c c refl) in
     omega arith
 
-back-loose : (p : Held) (places : List Place) (loose : List ℕ) (c : ℕ) → IsKept p places (c ∷ loose) → c < length p.texts → times c loose ≡ 0
+back-loose : (p : Held) (places : List NodePlace) (loose : List ℕ) (c : ℕ) → IsKept p places (c ∷ loose) → c < length p.texts → times c loose ≡ 0
 back-loose p places loose c kept inside =
     let few = kept.apart c inside in
     let here : cond {A = ℕ} (nat_eq c c) 1 0 ≡ 1 = ap (λ (b : Bool). cond {A = ℕ} b 1 0) (eq-eqb c c refl) in
     omega arith
 
-back-kept : (p : Held) (free : ℕ) (places : List Place) (loose : List ℕ) (c : ℕ) → IsKept p places (c ∷ loose) → free ≡ p.free + blocks_of (length (text p.texts c)) → Leaves p (record { texts = set p.texts c []; free = free }) places loose loose
+back-kept : (p : Held) (free : ℕ) (places : List NodePlace) (loose : List ℕ) (c : ℕ) → IsKept p places (c ∷ loose) → free ≡ p.free + blocks_of (length (text p.texts c)) → Leaves p (record { texts = set p.texts c []; free = free }) places loose loose
 back-kept p free places loose c kept free-is =
     let clear = each-zero-clear p.texts c places (λ h. back-places p places loose c kept h) in
     let loose-clear = zero-clear p.texts c loose (λ h. back-loose p places loose c kept h) in
@@ -230,12 +230,12 @@ back-kept p free places loose c kept free-is =
     }
 
 -- a loose chain is taken back
-pub backs-kept : (p q : Held) (places : List Place) (loose : List ℕ) (c : ℕ) → IsKept p places (c ∷ loose) → TakesBack p q c → Leaves p q places loose loose
+pub backs-kept : (p q : Held) (places : List NodePlace) (loose : List ℕ) (c : ℕ) → IsKept p places (c ∷ loose) → TakesBack p q c → Leaves p q places loose loose
 backs-kept p q places loose c kept back =
     subst (λ (ts : List (List ℕ)). Leaves p (record { texts = ts; free = q.free }) places loose loose) (sym back.texts)
     (back-kept p q.free places loose c kept back.free)
 
-blocks-place : (texts : List (List ℕ)) (place : Place) → chain_blocks texts (place_chains place) ≡ slot_blocks (slot_in texts place)
+blocks-place : (texts : List (List ℕ)) (place : NodePlace) → chain_blocks texts (place_chains place) ≡ slot_blocks (slot_in texts place)
 blocks-place texts None = refl
 blocks-place texts (Some node) =
     elim node.value as (λ v. chain_blocks texts (value_chains v (node.key ∷ [])) ≡ slot_blocks (Some (record { key = text texts node.key; meta = node.meta; value = option_map (text texts) v; age = node.age }))) [
@@ -243,25 +243,25 @@ blocks-place texts (Some node) =
       | Some v ↦ omega arith
     ]
 
-each-whole-in : (texts : List (List ℕ)) (places : List Place) (i : ℕ) (new : Place) → AreWhole texts (place_chains new) → EachWhole texts places → EachWhole texts (set places i new)
+each-whole-in : (texts : List (List ℕ)) (places : List NodePlace) (i : ℕ) (new : NodePlace) → AreWhole texts (place_chains new) → EachWhole texts places → EachWhole texts (set places i new)
 each-whole-in texts [] i new here whole = tt
 each-whole-in texts (place ∷ places) zero new here whole = (here, whole.1)
 each-whole-in texts (place ∷ places) (suc i) new here whole = (whole.0, each-whole-in texts places i new here whole.1)
 
-each-whole-at : (texts : List (List ℕ)) (places : List Place) (i : ℕ) (old : Place) → slice_get places i ≡ Some old → EachWhole texts places → AreWhole texts (place_chains old)
+each-whole-at : (texts : List (List ℕ)) (places : List NodePlace) (i : ℕ) (old : NodePlace) → slice_get places i ≡ Some old → EachWhole texts places → AreWhole texts (place_chains old)
 each-whole-at texts [] i old is whole = absurd (cc)
 each-whole-at texts (place ∷ places) zero old is whole =
-    let same : place ≡ old = cc in subst (λ (x : Place). AreWhole texts (place_chains x)) same whole.0
+    let same : place ≡ old = cc in subst (λ (x : NodePlace). AreWhole texts (place_chains x)) same whole.0
 each-whole-at texts (place ∷ places) (suc i) old is whole = each-whole-at texts places i old is whole.1
 
-used-places : (texts : List (List ℕ)) (places : List Place) → used (slots_of texts places) ≡ sum_of (λ (place : Place). slot_blocks (slot_in texts place)) places
+used-places : (texts : List (List ℕ)) (places : List NodePlace) → used (slots_of texts places) ≡ sum_of (λ (place : NodePlace). slot_blocks (slot_in texts place)) places
 used-places texts [] = refl
 used-places texts (place ∷ places) = ap (λ n. slot_blocks (slot_in texts place) + n) (used-places texts places)
 
-swap-exact : (p : Held) (places : List Place) (i : ℕ) (old new : Place) → i < length places → get_or places i None ≡ old → IsKept p places (place_chains new) → p.free + (used (slots_of p.texts (set places i new)) + chain_blocks p.texts (place_chains old)) ≡ length (set places i new)
+swap-exact : (p : Held) (places : List NodePlace) (i : ℕ) (old new : NodePlace) → i < length places → get_or places i None ≡ old → IsKept p places (place_chains new) → p.free + (used (slots_of p.texts (set places i new)) + chain_blocks p.texts (place_chains old)) ≡ length (set places i new)
 swap-exact p places i old new inside there kept =
-    let sums = sum_of-set (λ (place : Place). slot_blocks (slot_in p.texts place)) places i new None inside in
-    let at = ap (λ (place : Place). slot_blocks (slot_in p.texts place)) there in
+    let sums = sum_of-set (λ (place : NodePlace). slot_blocks (slot_in p.texts place)) places i new None inside in
+    let at = ap (λ (place : NodePlace). slot_blocks (slot_in p.texts place)) there in
     let of-set = used-places p.texts (set places i new) in
     let of-all = used-places p.texts places in
     let old-blocks = blocks-place p.texts old in
@@ -271,7 +271,7 @@ swap-exact p places i old new inside there kept =
     omega arith
 
 -- a node whose chains are loose is put into a place, and the chains of the one that was there are loose then
-pub swap-kept : (p : Held) (places : List Place) (i : ℕ) (old new : Place) → slice_get places i ≡ Some old → IsKept p places (place_chains new) → IsKept p (set places i new) (place_chains old)
+pub swap-kept : (p : Held) (places : List NodePlace) (i : ℕ) (old new : NodePlace) → slice_get places i ≡ Some old → IsKept p places (place_chains new) → IsKept p (set places i new) (place_chains old)
 swap-kept p places i old new is kept =
     let inside = slice_get_within places i old is in
     let there : get_or places i None ≡ old = get_or_from_slice_get places i old None is in
@@ -282,8 +282,8 @@ swap-kept p places i old new is kept =
       whole = each-whole-in p.texts places i new kept.loose_whole kept.whole;
       loose_whole = each-whole-at p.texts places i old is kept.whole;
       apart = λ c h.
-          let sums = sum_of-set (λ (place : Place). times c (place_chains place)) places i new None inside in
-          let at = ap (λ (place : Place). times c (place_chains place)) there in
+          let sums = sum_of-set (λ (place : NodePlace). times c (place_chains place)) places i new None inside in
+          let at = ap (λ (place : NodePlace). times c (place_chains place)) there in
           let few = kept.apart c h in
           omega arith;
     }
@@ -307,9 +307,9 @@ times-empty c (suc n) = let rest = times-empty c n in omega arith
 -- a pool whose blocks are all free, with as many empty places
 pub new-kept : (blocks : ℕ) → blocks ≤ 16777216 → IsKept (all_free blocks) (replicate blocks None) []
 new-kept blocks few = record {
-  size = length-replicate {A = List ℕ} blocks [] ∙ sym (length-replicate {A = Place} blocks None);
-  few = rw (length-replicate {A = Place} blocks None) few;
-  exact = (let none = used-empty (replicate blocks []) blocks in let len = length-replicate {A = Place} blocks None in omega arith);
+  size = length-replicate {A = List ℕ} blocks [] ∙ sym (length-replicate {A = NodePlace} blocks None);
+  few = rw (length-replicate {A = NodePlace} blocks None) few;
+  exact = (let none = used-empty (replicate blocks []) blocks in let len = length-replicate {A = NodePlace} blocks None in omega arith);
   whole = whole-empty (replicate blocks []) blocks;
   loose_whole = tt;
   apart = λ c h. (let none = times-empty c blocks in omega arith);
