@@ -4,7 +4,7 @@ use Rattle.kv_keeper.specs.declared.data.DeskData.{DeskData}
 use Rattle.kv_keeper.specs.declared.keeper.Kept.{Kept}
 use Rattle.kv_keeper.specs.declared.keeper.Kept.TheVariants.{Good, Failed, NoMemory}
 use Rattle.kv_keeper.specs.Content.{KeeperData}
-use Rattle.ep_model.specs.Counts.{Rose}
+use Rattle.kv_keeper.specs.Kept.{failed_keeper}
 
 -- a desk that was just made before a keeper
 abbrev pub new_desk : KeeperData → DeskData
@@ -18,20 +18,14 @@ IsSure desk = desk.doubt ≡ None
 abbrev pub RoseBy : ℕ → ℕ → ℕ → Type 0
 RoseBy many before now = min (before + many) (2 ^ 64 - 1) ≤ now
 
--- a desk whose keeper has failed so often
-abbrev pub with_keeper_faults : DeskData → ℕ → DeskData
-with_keeper_faults desk faults = record desk { keeper = record desk.keeper { faults = faults } }
-
--- a desk of which one more read failed
-pub record OneReadFailed (old new : DeskData) : Type 0 where
-  pub left : new ≡ record (with_keeper_faults old new.keeper.faults) { read_faults = old.read_faults + 1 }
-  pub faults : old.keeper.faults ≤ new.keeper.faults
-  pub rose : Rose old.keeper.faults new.keeper.faults
+-- a desk of which one more read failed: its own count and its keeper's rose by one each, and all else is as it was
+abbrev pub after_failed_read : DeskData → DeskData
+after_failed_read desk = record desk { keeper = failed_keeper desk.keeper; read_faults = desk.read_faults + 1 }
 
 -- what a read leaves of a desk: only one that failed changes anything
 abbrev pub ReadLeaves : {T : Type 0} → DeskData → DeskData → Kept T → Type 0
 ReadLeaves old new (Good x) = new ≡ old
-ReadLeaves old new Failed = OneReadFailed old new
+ReadLeaves old new Failed = new ≡ after_failed_read old
 ReadLeaves old new NoMemory = new ≡ old
 
 -- a desk after a commit up to a number that was answered so and left it this keeper

@@ -1,7 +1,7 @@
 -- What the result of a call on a store says.
-use Rattle.std.specs.Prelude.{◌≡◌, ℕ, ◌+◌, ◌-◌, ◌^◌, ◌≤◌, ◌⊎◌, min, false, ⊤, List, ◌++◌, length, Option, Some, None}
+use Rattle.std.specs.Prelude.{◌≡◌, ℕ, ◌≤◌, ◌⊎◌, false, ⊤, List, ◌++◌, length, Option, Some, None}
 use Rattle.std.specs.Option.{option_map}
-use Rattle.ep_model.specs.Counts.{Rose}
+use Rattle.ep_model.specs.Counts.{raised, RoseByOne}
 use Rattle.ep_model.specs.declared.call.Meta.{Meta}
 use Rattle.ep_model.specs.declared.data.OutData.{OutData}
 use Rattle.ep_model.specs.Limits.{max_value}
@@ -28,16 +28,15 @@ OnNoMemory NoMemory P = P
 abbrev pub state_of : Content → StoreState
 state_of content = record { version = content.version; high = content.high; maxcas = content.maxcas }
 
--- A store failed, and what it holds is as it was, told or not.
-pub record StoreFailed (old new : KeeperData) : Type 0 where
-  pub left : new ≡ record old { faults = new.faults }
-  pub faults : old.faults ≤ new.faults
-  pub rose : Rose old.faults new.faults
+-- a store that failed once more, and holds what it did, told or not
+abbrev pub failed_keeper : KeeperData → KeeperData
+failed_keeper keeper = record keeper { faults = raised keeper.faults }
 
--- A call that commits nothing leaves a store as it was, told or not. Its faults are counted where it failed, and nowhere else.
+-- A call that commits nothing leaves a store as it was, told or not. Its faults are counted where it failed, one for the call,
+-- and nowhere else.
 abbrev pub LeavesKeeper : {T : Type 0} → KeeperData → KeeperData → Kept T → Type 0
 LeavesKeeper old new (Good x) = new ≡ old
-LeavesKeeper old new Failed = StoreFailed old new
+LeavesKeeper old new Failed = new ≡ failed_keeper old
 LeavesKeeper old new NoMemory = new ≡ old
 
 -- what a read appends to its buffer: the value of the document that it found
@@ -55,14 +54,13 @@ committed content batch state = record { docs = laid batch.rows content.docs; ve
 abbrev pub all_committed : Option Content → BatchData → StoreState → Option Content
 all_committed content batch state = option_map (λ c. committed c batch state) content
 
--- A store whose commit failed: all of it was done, or nothing, and that is in doubt.
+-- A store whose commit failed, once: all of it was done, or nothing, and that is in doubt.
 pub record IsDoubtful (old : KeeperData) (whole : Option Content) (new : KeeperData) : Type 0 where
   pub which : ((new.content ≡ old.content) × (new.second ≡ whole)) ⊎ ((new.content ≡ whole) × (new.second ≡ old.content))
   pub doubtful : new.sure ≡ false
   pub ample : new.ample ≡ old.ample
   pub roomy : new.roomy ≡ old.roomy
-  pub faults : old.faults ≤ new.faults
-  pub rose : Rose old.faults new.faults
+  pub faults : RoseByOne old.faults new.faults
 
 -- what a commit makes of a store
 abbrev pub Commits : {T : Type 0} → KeeperData → BatchData → StoreState → KeeperData → Kept T → Type 0

@@ -35,7 +35,7 @@ pub enum Kept<T> {
 /// may not be called.
 pub trait Keeper: Drop {
     /// What clauses see of it: what it holds, where it tells that, and how often it has failed. Whether it tells never
-    /// changes. A count that stands at 2^64 - 1 stays there.
+    /// changes. Each call that answers `Failed` raises the count by one, and no other does; at 2^64 - 1 it stays.
     ghost seen: { Self → KeeperData };
 
     /// Its numbers.

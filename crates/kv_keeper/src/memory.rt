@@ -136,7 +136,6 @@ impl MemoryKeeper {
     fn next_get_fails(&mut self) -> bool
         ensures fails { result ≡ is_failing self.old }
         ensures after { self.new ≡ after_get self.old }
-        ensures faults { self.old.faults ≤ self.new.faults }
     {
         let number = self.gets;
         self.gets = number.saturating_add(1);

@@ -1,7 +1,6 @@
 // Batches, commits and reads with their bytes written out, and a keeper that always fails.
 ghost use Rattle.std.specs.Prelude.{◌≡◌, ◌≤◌, true};
 ghost use Rattle.ep_model.specs.Limits.{IsKey};
-ghost use Rattle.ep_model.specs.Counts.{Rose};
 ghost use Rattle.ep_model.specs.Counts.{raised};
 
 use crate::{Batch, Desk, Keeper, Kept, MemoryKeeper, StoreState};
@@ -80,7 +79,6 @@ impl Broken {
     fn fail<T>(&mut self) -> Kept<T>
         ensures after { self.new ≡ record self.old { faults = raised self.old.faults } }
         ensures failed { result ≡ Kept.Failed }
-        ensures rose { (self.old.faults ≤ self.new.faults) × Rose self.old.faults self.new.faults }
     {
         self.faults = self.faults.saturating_add(1);
         Kept::Failed
