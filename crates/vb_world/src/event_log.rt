@@ -1,5 +1,5 @@
 // Events of many vBuckets in one log: what they say in order, and behind one another their bytes.
-ghost use Rattle.std.specs.Prelude.{◌≡◌, ◌∷◌, [], ◌++◌, ◌+◌, ◌<◌, ◌≤◌, length, vec_len, vec_capacity, IsOk, IfOk, OnOk, OnErr, slice_get, Some};
+ghost use Rattle.std.specs.Prelude.{◌≡◌, ◌⊎◌, ◌∷◌, [], ◌++◌, ◌+◌, ◌<◌, ◌≤◌, length, vec_len, vec_capacity, IsOk, IfOk, OnOk, OnErr, slice_get, Some};
 ghost use Rattle.ep_model.specs.History.{call_data, event_data};
 ghost use Rattle.hold_stage.specs.Touches.{bytes_of_call, bytes_of};
 ghost use Rattle.vb_world.specs.EventLog.{Extends, KeepsCall, call_in, event_in, spanned, IsInside, IsCallInside, IsEventInside, pairs_of, IsWhole, event_room, byte_room};
@@ -441,6 +441,7 @@ pub fn reserve(log: &mut EventLog, events: usize, bytes: usize) -> Result<(), No
     ensures whole { IsWhole log.old → IsWhole log.new }
     ensures pairs { pairs_of log.new ≡ pairs_of log.old }
     ensures ok { OnOk result ((events ≤ event_room log.new) × (bytes ≤ byte_room log.new)) }
+    ensures err { OnErr result ((event_room log.old < events) ⊎ (byte_room log.old < bytes)) }
     ensures events { event_room log.old ≤ event_room log.new }
     ensures bytes { byte_room log.old ≤ byte_room log.new }
 {

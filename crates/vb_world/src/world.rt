@@ -1,5 +1,5 @@
 // The vBuckets of a bucket, with their histories.
-ghost use Rattle.std.specs.Prelude.{◌≡◌, ◌+◌, ◌<◌, ◌≤◌, ◌++◌, ◌∷◌, [], true, length, slice_get, Some, None, IfOk, IfErr, OnOk, OnErr};
+ghost use Rattle.std.specs.Prelude.{◌≡◌, ◌⊎◌, ◌+◌, ◌<◌, ◌≤◌, ◌++◌, ◌∷◌, [], true, length, slice_get, Some, None, IfOk, IfErr, OnOk, OnErr};
 ghost use Rattle.ep_model.specs.declared.event.PartName.{PartName};
 ghost use Rattle.ep_model.specs.Config.{config_fault};
 ghost use Rattle.ep_model.specs.History.{event_data};
@@ -77,11 +77,13 @@ impl<P: Stands + Drop> World<P> {
         Ok(())
     }
 
-    /// Takes room for so many more events, with so many more bytes of keys and values. At an error, for want of
-    /// memory, it has room for no fewer than before. Linear in what was noted where that has to move.
+    /// Takes room for so many more events, with so many more bytes of keys and values. At an error memory was wanting,
+    /// for which there was no room before, and it has room for no fewer than then. Linear in what was noted where that
+    /// has to move.
     pub fn reserve(&mut self, events: usize, bytes: usize) -> Result<(), NoMemory>
         ensures same { self.new ≡ record self.old { event_room = self.new.event_room; byte_room = self.new.byte_room } }
         ensures ok { OnOk result ((events ≤ self.new.event_room) × (bytes ≤ self.new.byte_room)) }
+        ensures err { OnErr result ((self.old.event_room < events) ⊎ (self.old.byte_room < bytes)) }
         ensures events { self.old.event_room ≤ self.new.event_room }
         ensures bytes { self.old.byte_room ≤ self.new.byte_room }
         ensures sound { Sound P.stands self.new }
