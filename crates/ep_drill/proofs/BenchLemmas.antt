@@ -15,9 +15,7 @@ use Rattle.hold_stage.specs.Touches.{is_desks}
 use Rattle.kv_keeper.specs.declared.data.BatchData.{BatchData}
 use Rattle.kv_keeper.specs.declared.data.DeskData.{DeskData}
 use Rattle.kv_keeper.specs.Content.{Content, KeeperData, empty_content}
-use Rattle.kv_keeper.specs.declared.keeper.StoreState.{StoreState}
-use Rattle.kv_keeper.specs.Desk.{OneReadFailed, new_desk, with_keeper_faults}
-use Rattle.kv_keeper.specs.Kept.{IsDoubtful, all_committed}
+use Rattle.kv_keeper.specs.Desk.{new_desk, after_failed_read}
 use Rattle.hold_stage.proofs.Later.{same_told}
 use Rattle.hold_stage.proofs.RisesLemmas.{opened_stays, may_of, started_low}
 use Rattle.ep_drill.specs.declared.data.BenchData.{BenchData}
@@ -31,7 +29,7 @@ use Rattle.ep_drill.specs.declared.data.FoundData.{FoundData}
 use Rattle.ep_drill.specs.declared.data.FoundData.TheVariants as founds
 use Rattle.hold_stage.specs.Went.{with_noted}
 use Rattle.hold_stage.proofs.DeskLemmas.{persisted_same}
-use Rattle.ep_drill.specs.StoreSide.{IsFlushed, state_for, whole}
+use Rattle.ep_drill.specs.StoreSide.{IsFlushed, state_for}
 use Rattle.ep_drill.specs.Fetches.{Reads, IsMerged}
 use Rattle.ep_drill.specs.Stands.{HoldsIfTelling, DeskStands, BatchStands, FetchedStands}
 use Rattle.ep_drill.specs.Core.{BenchStands}
@@ -133,21 +131,21 @@ bench_committed f g bench now batch flushes.NoMemory legal then b is =
     (subst (λ (d : DeskData). BenchStands f (record { desk = d; batch = None; reads = bench.reads })) (sym is.1)
     (with_desk f f bench bench.desk None b refl (b.opened, b.told) b.desk b.tells b.known tt tt (λ r s. s) (omega arith)))
 
--- what a read leaves of the desk
-pub record IsAsked (old now : DeskData) : Type 0 where
-  pub left : now ≡ record (with_keeper_faults old now.keeper.faults) { read_faults = now.read_faults }
-  pub faults : old.read_faults ≤ now.read_faults
+-- what a read leaves of the desk: it failed once more, or is as it was
+abbrev IsAsked : DeskData → DeskData → Type 0
+IsAsked old now = (now ≡ old) ⊎ (now ≡ after_failed_read old)
 
-asked_none : (old now : DeskData) → now ≡ old → IsAsked old now
-asked_none old now is = subst (λ (d : DeskData). IsAsked old d) (sym is) (record { left = refl; faults = omega arith })
+asked_by : (old now : DeskData) (found : FoundData) → Reads old now found → IsAsked old now
+asked_by old now (founds.Row doc) is = inl is
+asked_by old now founds.Absent is = inl is
+asked_by old now (founds.Failed fault) is = inr is.1
+asked_by old now founds.NoMemory is = inl is
 
-pub asked_by : (old now : DeskData) (found : FoundData) → Reads old now found → IsAsked old now
-asked_by old now (founds.Row doc) is = asked_none old now is
-asked_by old now founds.Absent is = asked_none old now is
-asked_by old now (founds.Failed fault) is =
-    let e : now.read_faults ≡ old.read_faults + 1 = ap (λ (d : DeskData). d.read_faults) is.1.left in
-    record { left = is.1.left ∙ ap (λ (k : ℕ). record (with_keeper_faults old now.keeper.faults) { read_faults = k }) (sym e); faults = omega arith }
-asked_by old now founds.NoMemory is = asked_none old now is
+asked_more : (old now : DeskData) → IsAsked old now → old.read_faults ≤ now.read_faults
+asked_more old now asked = elim asked [
+  | inl is ↦ let e : now.read_faults ≡ old.read_faults = ap (λ (d : DeskData). d.read_faults) is in (let more : old.read_faults ≤ now.read_faults = omega arith in more)
+  | inr is ↦ let e : now.read_faults ≡ old.read_faults + 1 = ap (λ (d : DeskData). d.read_faults) is in (let more : old.read_faults ≤ now.read_faults = omega arith in more)
+]
 
 batch_at : (f : FrontData) (old now : ℕ) (batch : Option BatchData) → now ≡ old → IfSome batch (λ b. BatchStands f old b) → IfSome batch (λ b. BatchStands f now b)
 batch_at f old now None is h = tt
@@ -159,11 +157,12 @@ sure_at old now (Some batch) is h = is ∙ h
 
 -- the store was read
 bench_asked : (f : FrontData) (bench : BenchData) (now : DeskData) → BenchStands f bench → IsAsked bench.desk now → BenchStands f (record { desk = now; batch = bench.batch; reads = bench.reads })
-bench_asked f bench now b asked =
-    let after : DeskData = record (with_keeper_faults bench.desk now.keeper.faults) { read_faults = now.read_faults } in
-    let more = asked.faults in
-    subst (λ (d : DeskData). BenchStands f (record { desk = d; batch = bench.batch; reads = bench.reads })) (sym asked.left)
-    (with_desk f f bench after bench.batch b refl (b.opened, b.told) (more_faults f bench.desk now.keeper.faults now.read_faults more b.desk) b.tells b.known b.batch b.sure (λ r s. s) more)
+bench_asked f bench now b asked = elim asked [
+  | inl is ↦ subst (λ (d : DeskData). BenchStands f (record { desk = d; batch = bench.batch; reads = bench.reads })) (sym is) b
+  | inr is ↦
+      subst (λ (d : DeskData). BenchStands f (record { desk = d; batch = bench.batch; reads = bench.reads })) (sym is)
+      (with_desk f f bench (after_failed_read bench.desk) bench.batch b refl (b.opened, b.told) (more_faults f bench.desk b.desk) b.tells b.known b.batch b.sure (λ r s. s) (omega arith))
+]
 
 -- a read that stands behind another one's place was there before, or is the other
 replaced : (reads : List (Option FetchedData)) (stripe i : ℕ) (q r : FetchedData) → slice_get (slice_set reads stripe (Some q)) i ≡ Some (Some r) → ((i ≡ stripe) × (r ≡ q)) ⊎ (slice_get reads i ≡ Some (Some r))
@@ -184,9 +183,9 @@ left_over (x ∷ reads) (suc stripe) (suc i) r is = let h = left_over reads stri
 -- a failed read that was just made has a number above the old count, and the new count is as high
 counted : (old now : DeskData) (fault : ℕ) (found : FoundData) → Reads old now found → found ≡ founds.Failed fault → (old.read_faults < fault) × (fault ≤ now.read_faults)
 counted old now fault found is failed =
-    let c : (fault ≡ old.read_faults + 1) × OneReadFailed old now = subst (λ (o : FoundData). Reads old now o) failed is in
+    let c : (fault ≡ old.read_faults + 1) × (now ≡ after_failed_read old) = subst (λ (o : FoundData). Reads old now o) failed is in
     let n = c.0 in
-    let e : now.read_faults ≡ old.read_faults + 1 = ap (λ (d : DeskData). d.read_faults) c.1.left in
+    let e : now.read_faults ≡ old.read_faults + 1 = ap (λ (d : DeskData). d.read_faults) c.1 in
     ((let low : old.read_faults < fault = omega arith in low), (let top : fault ≤ now.read_faults = omega arith in top))
 
 -- A read was made for a stripe. Where it failed its number is above those of all that failed before.
@@ -195,7 +194,7 @@ pub bench_read : (f : FrontData) (bench : BenchData) (now : DeskData) (stripe : 
 bench_read f bench now stripe fetched b there stands here read =
     let by = asked_by bench.desk now fetched.found read in
     let asked = bench_asked f bench now b by in
-    let more = by.faults in
+    let more = asked_more bench.desk now by in
     record {
       opened = asked.opened;
       told = asked.told;

@@ -57,14 +57,14 @@ first_at P (first ∷ places) place is all =
       | false ↦ λ e. first_at P places place e all.1
     ] is
 
-oldest_is : (first : Option PlaceData) (number : ℕ) (key : Vec ℕ Global) → IsOldest first (Some (number, key)) → (place : PlaceData) × (first ≡ Some place) × (number ≡ place.number) × (key.items ≡ place.key)
-oldest_is None number key h = absurd h
-oldest_is (Some place) number key h = (place, refl, h.0, h.1)
+oldest_is : (first : Option PlaceData) (number : ℕ) (key room : Vec ℕ Global) → IsOldest first (Some (number, key, room)) → (place : PlaceData) × (first ≡ Some place) × (number ≡ place.number) × (key.items ≡ place.key)
+oldest_is None number key room h = absurd h
+oldest_is (Some place) number key room h = (place, refl, h.0, h.1)
 
 -- whoever waits longest waits at its place's ticket
-oldest_waits : (f : FrontData) (stripe : ℕ) (x : StripeData) (number : ℕ) (key : Vec ℕ Global) → StripeStands f stripe x → IsOldest (first_waiting x.places) (Some (number, key)) → is_waiting f (ticket_of stripe number) key.items ≡ true
-oldest_waits f stripe x number key s oldest =
-    let o = oldest_is (first_waiting x.places) number key oldest in
+oldest_waits : (f : FrontData) (stripe : ℕ) (x : StripeData) (number : ℕ) (key room : Vec ℕ Global) → StripeStands f stripe x → IsOldest (first_waiting x.places) (Some (number, key, room)) → is_waiting f (ticket_of stripe number) key.items ≡ true
+oldest_waits f stripe x number key room s oldest =
+    let o = oldest_is (first_waiting x.places) number key room oldest in
     let p = first_at (PlaceStands f stripe) x.places o.0 o.1 s.places in
     ap (λ n. is_waiting f (ticket_of stripe n) key.items) o.2 ∙ ap (λ (k : List ℕ). is_waiting f (ticket_of stripe o.0.number) k) o.3 ∙ p.waiting
 
@@ -115,12 +115,12 @@ found_stands f ticket key desk now founds.NoMemory legal eviction sure d waits i
     fetched_any f ticket key (fetched_of ticket key founds.NoMemory) waits refl refl tt
 
 -- A read for whoever waits longest in a stripe stands.
-pub read_at : (f₀ f : FrontData) (stripe : ℕ) (x : StripeData) (number : ℕ) (key : Vec ℕ Global) (desk now : DeskData) (found : FoundData) → f ≡ f₀ → IsLegal f → f₀.config.eviction ≡ Value → StripeStands f stripe x
-    → desk.doubt ≡ None → DeskStands f₀ desk → IsOldest (first_waiting x.places) (Some (number, key)) → ((c : Content) → desk.keeper.content ≡ Some c → IsFoundIn c key.items found) → Reads desk now found
+pub read_at : (f₀ f : FrontData) (stripe : ℕ) (x : StripeData) (number : ℕ) (key room : Vec ℕ Global) (desk now : DeskData) (found : FoundData) → f ≡ f₀ → IsLegal f → f₀.config.eviction ≡ Value → StripeStands f stripe x
+    → desk.doubt ≡ None → DeskStands f₀ desk → IsOldest (first_waiting x.places) (Some (number, key, room)) → ((c : Content) → desk.keeper.content ≡ Some c → IsFoundIn c key.items found) → Reads desk now found
     → FetchedStands f₀ (fetched_of (ticket_of stripe number) key.items found)
-read_at f₀ f stripe x number key desk now found front legal eviction s sure d oldest is reads =
+read_at f₀ f stripe x number key room desk now found front legal eviction s sure d oldest is reads =
     found_stands f₀ (ticket_of stripe number) key.items desk now found (subst IsLegal front legal) eviction sure d
-    (oldest_waits f₀ stripe x number key (subst (λ (g : FrontData). StripeStands g stripe x) front s) oldest) is reads
+    (oldest_waits f₀ stripe x number key room (subst (λ (g : FrontData). StripeStands g stripe x) front s) oldest) is reads
 
 -- a place that isn't missing is one
 some_outcome : (o : Option Outcome) → (o ≡ None → ⊥) → (outcome : Outcome) × (o ≡ Some outcome)

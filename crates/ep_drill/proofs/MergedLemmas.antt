@@ -7,7 +7,6 @@ use Rattle.ep_model.specs.declared.config.Config.{Config}
 use Rattle.ep_model.specs.declared.data.EventData.TheVariants as events
 use Rattle.ep_model.specs.declared.data.FrontData.{FrontData}
 use Rattle.ep_model.specs.declared.event.Ticket.{Ticket}
-use Rattle.ep_model.specs.Front.{world_of}
 use Rattle.ep_model.specs.Legal.{IsLegal}
 use Rattle.hold_stage.specs.Touches.{is_call}
 use Rattle.kv_keeper.specs.declared.data.BatchData.{BatchData}

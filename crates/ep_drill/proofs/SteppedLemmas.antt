@@ -19,11 +19,15 @@ use Rattle.ep_drill.specs.declared.data.CoreData.{CoreData}
 use Rattle.ep_drill.specs.declared.store.Paged.{Paged}
 use Rattle.ep_drill.specs.StoreSide.{IsPaged}
 use Rattle.ep_drill.specs.Calls.{KeptBut}
-use Rattle.ep_drill.specs.Core.{bench_data, core_data, Moved, Rested, Interleaves, GoesOn}
+use Rattle.ep_drill.specs.Core.{bench_data, core_data, Moved, Rested, Interleaves, GoesOn, LacksRoom}
 use Rattle.ep_drill.specs.Fetches.{HasWaiting}
 use Rattle.ep_drill.specs.Stepped.{AtBench, BenchIs, IsBenched, WasPaged, Ran, RanSome, Spares, Stepped, TakesMemory}
 use Rattle.ep_drill.proofs.EngineLemmas.{bench_at}
 use Rattle.ep_drill.proofs.Lists.{set_same}
+
+-- a core's history has no room for one event more
+lacks_room : {K : Type 0} (old : CoreData) (config : Config) (w : WorldData Part) (benches : List (Bench K)) (callers : List Caller) → core_data config w benches callers ≡ old → LacksRoom w → LacksRoom old.world
+lacks_room old config w benches callers is lacks = subst (λ (o : CoreData). LacksRoom o.world) is lacks
 
 -- A step was made at the bench that stands at a place, which is the vBucket's number.
 module _ {K : Type 0} (old : CoreData) (config : Config) (w z : WorldData Part) (benches : List (Bench K)) (callers : List Caller) (place vb : ℕ) (bench : Bench K) (is : core_data config w benches callers ≡ old) (here : place ≡ vb) (at : slice_get benches place ≡ Some bench) where
@@ -66,16 +70,16 @@ module _ {K : Type 0} (old : CoreData) (config : Config) (w z : WorldData Part) 
   pub bench_is : (Q : BenchData → Type 0) → Q (bench_data bench) → BenchIs old vb Q
   bench_is Q holds = subst (λ (o : CoreData). BenchIs o vb Q) is (bench_data bench, found_first, holds)
 
-  pub benched_err : {E : Type 0} (after : Bench K) (Q : BenchData → Type 0) (result : Result Answer E) → OnErr result (Rested config w z × (bench_data after ≡ bench_data bench) × Q (bench_data bench))
-      → OnErr result (Spares old (core_data config z (slice_set benches place after) callers) × BenchIs old vb Q)
+  pub benched_err : {E : Type 0} (after : Bench K) (Q : BenchData → Type 0) (result : Result Answer E) → OnErr result (Rested config w z × (bench_data after ≡ bench_data bench) × Q (bench_data bench) × LacksRoom w)
+      → OnErr result (Spares old (core_data config z (slice_set benches place after) callers) × BenchIs old vb Q × LacksRoom old.world)
   benched_err after Q (Ok answer) err = tt
-  benched_err after Q (Err e) err = (spared_at after err.0 err.1, bench_is Q err.2)
+  benched_err after Q (Err e) err = (spared_at after err.0 err.1, bench_is Q err.2, lacks_room old config w benches callers is err.3)
 
   -- the same for a merge, whose stripe is there
-  pub merge_err : {E : Type 0} (after : Bench K) (stripe : ℕ) (Q : BenchData → Type 0) (result : Result Answer E) → stripe < config.stripes → OnErr result (Rested config w z × (bench_data after ≡ bench_data bench) × Q (bench_data bench))
-      → OnErr result (Spares old (core_data config z (slice_set benches place after) callers) × (stripe < old.config.stripes) × BenchIs old vb Q)
+  pub merge_err : {E : Type 0} (after : Bench K) (stripe : ℕ) (Q : BenchData → Type 0) (result : Result Answer E) → stripe < config.stripes → OnErr result (Rested config w z × (bench_data after ≡ bench_data bench) × Q (bench_data bench) × LacksRoom w)
+      → OnErr result (Spares old (core_data config z (slice_set benches place after) callers) × (stripe < old.config.stripes) × BenchIs old vb Q × LacksRoom old.world)
   merge_err after stripe Q (Ok answer) there err = tt
-  merge_err after stripe Q (Err e) there err = (spared_at after err.0 err.1, subst (λ (o : CoreData). stripe < o.config.stripes) is there, bench_is Q err.2)
+  merge_err after stripe Q (Err e) there err = (spared_at after err.0 err.1, subst (λ (o : CoreData). stripe < o.config.stripes) is there, bench_is Q err.2, lacks_room old config w benches callers is err.3)
 
   -- and for a read
   pub read_err : {E : Type 0} (after : Bench K) (stripe : ℕ) (result : Result Answer E)
@@ -91,11 +95,11 @@ spared_world old config w z benches callers is rested =
     subst (λ (o : CoreData). Spares o (core_data config z benches callers)) is (record { left = refl; rested = rested })
 
 pub mark_err : {K : Type 0} {E : Type 0} (old : CoreData) (config : Config) (w z : WorldData Part) (benches : List (Bench K)) (callers : List Caller) (vb stripe : ℕ) (result : Result Answer E) → core_data config w benches callers ≡ old → vb < config.vbuckets
-    → stripe < config.stripes → OnErr result (Rested config w z) → OnErr result (Spares old (core_data config z benches callers) × (vb < old.config.vbuckets) × (stripe < old.config.stripes))
+    → stripe < config.stripes → OnErr result (Rested config w z × LacksRoom w) → OnErr result (Spares old (core_data config z benches callers) × (vb < old.config.vbuckets) × (stripe < old.config.stripes) × LacksRoom old.world)
 mark_err old config w z benches callers vb stripe (Ok answer) is low within err = tt
 mark_err old config w z benches callers vb stripe (Err e) is low within err =
     let layout : config ≡ old.config = ap (λ (o : CoreData). o.config) is in
-    (spared_world old config w z benches callers is err, subst (λ (k : Config). vb < k.vbuckets) layout low, subst (λ (k : Config). stripe < k.stripes) layout within)
+    (spared_world old config w z benches callers is err.0, subst (λ (k : Config). vb < k.vbuckets) layout low, subst (λ (k : Config). stripe < k.stripes) layout within, lacks_room old config w benches callers is err.1)
 
 -- the pager was at a stripe
 pub paged_at : {K : Type 0} (old : CoreData) (config : Config) (w z : WorldData Part) (benches : List (Bench K)) (callers : List Caller) (vb stripe : ℕ) (paged : Paged) → core_data config w benches callers ≡ old → Moved config vb None w z

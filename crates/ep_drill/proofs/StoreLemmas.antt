@@ -1,5 +1,5 @@
 -- What a desk, a batch and a read are to a history, while other events are noted.
-use Rattle.std.proofs.Common.{◌≡◌, ◌<◌, ◌≤◌, ℕ, true, false, inl, inr, List, [], ◌∷◌, ◌++◌, refl, sym, ap, subst, ◌∙◌, arith}
+use Rattle.std.proofs.Common.{◌≡◌, ◌+◌, ◌<◌, ◌≤◌, ℕ, true, false, inl, inr, List, [], ◌∷◌, ◌++◌, refl, sym, ap, subst, ◌∙◌, arith}
 use Rattle.std.specs.Prelude.{Option, Some, None, IsSome, ◌==◌, ◌||◌, ◌&&◌, not}
 use Rattle.std.specs.List.{AllByRecursion}
 use Rattle.std.specs.FinMap.{get}
@@ -25,8 +25,8 @@ use Rattle.hold_stage.proofs.Stored.{upto_last, doc_upto}
 use Rattle.kv_keeper.specs.declared.data.BatchData.{BatchData}
 use Rattle.kv_keeper.specs.declared.data.DeskData.{DeskData}
 use Rattle.kv_keeper.specs.Content.{Content, KeeperData}
-use Rattle.kv_keeper.specs.Desk.{with_keeper_faults}
-use Rattle.kv_keeper.specs.Kept.{IsDoubtful, all_committed}
+use Rattle.kv_keeper.specs.Desk.{after_failed_read}
+use Rattle.kv_keeper.specs.Kept.{IsDoubtful, all_committed, failed_keeper}
 use Rattle.kv_keeper.specs.declared.keeper.StoreState.{StoreState}
 use Rattle.ep_drill.specs.StoreSide.{state_for, whole}
 use Rattle.kv_keeper.specs.Batch.{laid}
@@ -129,18 +129,18 @@ pub all_within_more : (a b : ℕ) (list : List EventData) → a ≤ b → AllByR
 all_within_more a b [] le h = tt
 all_within_more a b (event ∷ list) le h = (within_more a b event le h.0, all_within_more a b list le h.1)
 
-faults_hold : (f : FrontData) (keeper : KeeperData) (faults stored : ℕ) (doubt : Option ℕ) → ContentStands f keeper stored doubt → ContentStands f (record keeper { faults = faults }) stored doubt
-faults_hold f keeper faults stored None h = h
-faults_hold f keeper faults stored (Some doubt) h = h
+faults_hold : (f : FrontData) (keeper : KeeperData) (stored : ℕ) (doubt : Option ℕ) → ContentStands f keeper stored doubt → ContentStands f (failed_keeper keeper) stored doubt
+faults_hold f keeper stored None h = h
+faults_hold f keeper stored (Some doubt) h = h
 
--- a desk whose keeper failed once more stands
-pub more_faults : (f : FrontData) (desk : DeskData) (faults read_faults : ℕ) → desk.read_faults ≤ read_faults → DeskStands f desk → DeskStands f (record (with_keeper_faults desk faults) { read_faults = read_faults })
-more_faults f desk faults read_faults le d = record {
+-- a desk of which one more read failed stands
+pub more_faults : (f : FrontData) (desk : DeskData) → DeskStands f desk → DeskStands f (after_failed_read desk)
+more_faults f desk d = record {
   low = d.low;
   top = d.top;
-  holds = faults_hold f desk.keeper faults desk.stored desk.doubt d.holds;
+  holds = faults_hold f desk.keeper desk.stored desk.doubt d.holds;
   persisted = d.persisted;
-  faults = all_within_more desk.read_faults read_faults f.events le d.faults;
+  faults = all_within_more desk.read_faults (desk.read_faults + 1) f.events (omega arith) d.faults;
   tells = d.tells;
 }
 

@@ -27,12 +27,17 @@ use Rattle.ep_drill.specs.Calls.{AreHome, KeptBut}
 use Rattle.ep_drill.specs.Marks.{marked_by, IsMarked, HasMarked, MarksPart}
 use Rattle.ep_drill.specs.StoreSide.{IsTaken}
 use Rattle.ep_drill.specs.Fetches.{fetched_data, IsRead}
-use Rattle.ep_drill.specs.Stands.{BatchStands}
+use Rattle.ep_drill.specs.Stands.{BatchStands, DeskStands}
 use Rattle.ep_drill.specs.Core.{BenchStands, Ready, Moved, Worked}
 use Rattle.ep_drill.specs.Works.{WasMarked}
 use Rattle.ep_drill.proofs.MarkLemmas.{mark_becomes, mark_home, mark_alone}
 use Rattle.ep_drill.proofs.BenchLemmas.{bench_noted, bench_taken, bench_read}
 use Rattle.ep_drill.proofs.WorkedLemmas.{moved_with_room, worked_by, begun_with_room, layout_with_room, home_with_room, kept_at}
+
+-- a desk stands for the stage's history, which is the vBucket's
+pub desk_begun : (a s : WorldData Part) (vb sv : ℕ) → s ≡ a → sv ≡ vb → (bench : BenchData) → BenchStands (front_in a vb) bench → DeskStands (front_in s sv) bench.desk
+desk_begun a s vb sv w at bench b =
+    subst (λ (f : FrontData). DeskStands f bench.desk) (sym (ap (λ (k : ℕ). front_in s k) at ∙ ap (λ (k : WorldData Part). front_in k vb) w)) b.desk
 
 -- The stage begins at the world `a`, and what is done there notes nothing.
 module _ (a s z : WorldData Part) (vb sv zv : ℕ) (w : s ≡ a) (at : sv ≡ vb) (fixed : fixed_in z zv ≡ fixed_in s sv) (front : front_in z zv ≡ front_in s sv) where

@@ -71,6 +71,10 @@ pub record Worked (config : Config) (vb : ℕ) (old new : WorldData Part) : Type
   pub moved : Moved config vb event old new
   pub quiet : IfSome event (λ e. is_call e ≡ false)
 
+-- the history has no room for one event more
+abbrev pub LacksRoom : WorldData Part → Type 0
+LacksRoom world = world.event_room ≡ 0
+
 -- nothing happened, but that there may be room for more
 pub record Rested (config : Config) (old new : WorldData Part) : Type 0 where
   pub ready : Ready config new

@@ -1,9 +1,9 @@
 -- What reads of the store find, and how they end.
-use Rattle.std.specs.Prelude.{◌≡◌, ℕ, ◌+◌, ◌-◌, ◌^◌, ◌⊎◌, Bool, true, false, List, Option, Some, None, IsSome, Vec}
+use Rattle.std.specs.Prelude.{◌≡◌, ℕ, ◌+◌, ◌-◌, ◌^◌, ◌≤◌, ◌⊎◌, Bool, true, false, List, [], Option, Some, None, IsSome, Vec, vec_len, vec_capacity}
 use Rattle.std.specs.FinMap as map
 use Rattle.std.specs.declared.alloc.Global.{Global}
 use Rattle.ep_model.specs.declared.call.Meta.{Meta}
-use Rattle.ep_model.specs.Limits.{IsKey}
+use Rattle.ep_model.specs.Limits.{IsKey, max_value}
 use Rattle.ep_model.specs.World.{Doc, doc_from}
 use Rattle.ep_model.specs.declared.data.EventData.TheVariants as events
 use Rattle.ep_model.specs.declared.data.FrontData.{FrontData}
@@ -11,7 +11,7 @@ use Rattle.ep_model.specs.declared.event.Ticket.{Ticket}
 use Rattle.ep_model.specs.Front.{with_event}
 use Rattle.kv_keeper.specs.declared.data.DeskData.{DeskData}
 use Rattle.kv_keeper.specs.Content.{Content}
-use Rattle.kv_keeper.specs.Desk.{OneReadFailed}
+use Rattle.kv_keeper.specs.Desk.{after_failed_read}
 use Rattle.ep_drill.specs.declared.data.FetchedData.{FetchedData}
 use Rattle.ep_drill.specs.declared.data.FoundData.{FoundData}
 use Rattle.ep_drill.specs.declared.data.FoundData.TheVariants as founds
@@ -42,12 +42,16 @@ found_data found.NoMemory = founds.NoMemory
 abbrev pub fetched_data : Fetched → FetchedData
 fetched_data f = record { ticket = f.ticket; key = f.key.items; found = found_data f.found }
 
--- a copy of the first place whose read still waits, by its number and its key
-abbrev pub IsOldest : Option PlaceData → Option (ℕ × Vec ℕ Global) → Type 0
+-- nothing, with room for any value
+abbrev pub IsRoom : Vec ℕ Global → Type 0
+IsRoom room = (room.items ≡ []) × (vec_len room ≡ 0) × (max_value ≤ vec_capacity room)
+
+-- a copy of the first place whose read still waits, by its number and its key, with room for the value
+abbrev pub IsOldest : Option PlaceData → Option (ℕ × Vec ℕ Global × Vec ℕ Global) → Type 0
 IsOldest None None = Unit {0}
 IsOldest None (Some copy) = ⊥
 IsOldest (Some place) None = ⊥
-IsOldest (Some place) (Some copy) = (copy.0 ≡ place.number) × (copy.1.items ≡ place.key) × IsKey copy.1.items
+IsOldest (Some place) (Some copy) = (copy.0 ≡ place.number) × (copy.1.items ≡ place.key) × IsKey copy.1.items × IsRoom copy.2
 
 -- what was read is what the store holds of the key
 abbrev pub IsFoundIn : Content → List ℕ → FoundData → Type 0
@@ -67,31 +71,30 @@ IsBack x key meta value y false = (y ≡ x) × ((node : NodeData) → node_at x.
 abbrev pub settles : StripeData → ℕ → Outcome → StripeData
 settles x number outcome = record x { places = settled x.places number outcome }
 
--- A read that failed has the number that the desk's count of failed reads has since, one more than before. Any other leaves the
--- desk as it was.
+-- A read that failed has the number that the desk's count of failed reads has since, one more than before, and the store failed
+-- that once. Any other leaves the desk as it was.
 abbrev pub Reads : DeskData → DeskData → FoundData → Type 0
 Reads old new (founds.Row doc) = new ≡ old
 Reads old new founds.Absent = new ≡ old
-Reads old new (founds.Failed fault) = (fault ≡ old.read_faults + 1) × OneReadFailed old new
+Reads old new (founds.Failed fault) = (fault ≡ old.read_faults + 1) × (new ≡ after_failed_read old)
 Reads old new founds.NoMemory = new ≡ old
 
--- Memory was wanting for a read: the store's reads may want it, so many of them failed that none is counted any more, or the store
--- has a document of the key, of which a copy was to be made.
-abbrev pub IsWantingRead : DeskData → List ℕ → Type 0
-IsWantingRead desk key =
-    (desk.keeper.ample ≡ false) ⊎ (desk.read_faults ≡ 2 ^ 64 - 1) ⊎ ((c : Content) → desk.keeper.content ≡ Some c → IsSome (map.get c.docs key))
+-- Memory was wanting for a read that the store was asked for: its reads may want it, or so many of them failed that none is
+-- counted any more. The core's own room is taken before.
+abbrev pub IsWantingRead : DeskData → Type 0
+IsWantingRead desk = (desk.keeper.ample ≡ false) ⊎ (desk.read_faults ≡ 2 ^ 64 - 1)
 
 -- and nothing else answers so
-abbrev pub WantsRead : DeskData → List ℕ → FoundData → Type 0
-WantsRead desk key (founds.Row doc) = Unit {0}
-WantsRead desk key founds.Absent = Unit {0}
-WantsRead desk key (founds.Failed fault) = Unit {0}
-WantsRead desk key founds.NoMemory = IsWantingRead desk key
+abbrev pub WantsRead : DeskData → FoundData → Type 0
+WantsRead desk (founds.Row doc) = Unit {0}
+WantsRead desk founds.Absent = Unit {0}
+WantsRead desk (founds.Failed fault) = Unit {0}
+WantsRead desk founds.NoMemory = IsWantingRead desk
 
 -- a read for whoever waits in the stripe stands; none is made where nobody waits
 abbrev pub IsRead : FrontData → ℕ → DeskData → DeskData → Option Fetched → Type 0
 IsRead f stripe old new None = new ≡ old
-IsRead f stripe old new (Some fetched) = FetchedStands f (fetched_data fetched) × (fetched.ticket.stripe ≡ stripe) × Reads old new (found_data fetched.found) × WantsRead old fetched.key.items (found_data fetched.found)
+IsRead f stripe old new (Some fetched) = FetchedStands f (fetched_data fetched) × (fetched.ticket.stripe ≡ stripe) × Reads old new (found_data fetched.found) × WantsRead old (found_data fetched.found)
 
 -- the read is that of the oldest place that waits in a stripe; none is made where none waits
 abbrev pub IsReadOf : Option PlaceData → Option Fetched → Type 0

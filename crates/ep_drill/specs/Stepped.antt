@@ -1,5 +1,5 @@
 -- What a step of a core answers and does, and what lists of steps do.
-use Rattle.std.specs.Prelude.{◌≡◌, ◌⊎◌, ℕ, ◌^◌, ◌<◌, ◌≤◌, List, [], ◌∷◌, take, slice_get, slice_set, Option, Some, None, IsSome, Result, Ok, Err}
+use Rattle.std.specs.Prelude.{◌≡◌, ◌⊎◌, ℕ, ◌<◌, ◌≤◌, List, [], ◌∷◌, take, slice_get, slice_set, Option, Some, None, IsSome, Result, Ok, Err}
 use Rattle.ep_model.specs.Limits.{end_of_moments}
 use Rattle.ep_model.specs.declared.data.CallData.{CallData}
 use Rattle.ep_model.specs.declared.event.PartName.TheVariants.{Stripe}
@@ -22,7 +22,7 @@ use Rattle.ep_drill.specs.Calls.{event_of, KeptBut}
 use Rattle.ep_drill.specs.Callers.{next_of, after_step, tried_of}
 use Rattle.ep_drill.specs.Fetches.{HasWaiting}
 use Rattle.ep_drill.specs.Tries.{ComesTo}
-use Rattle.ep_drill.specs.Core.{Moved, Rested, Interleaves, GoesOn}
+use Rattle.ep_drill.specs.Core.{Moved, Rested, Interleaves, GoesOn, LacksRoom}
 use Rattle.ep_drill.specs.Works.{TakesAt, CommitsAt, MarksAt, FetchesAt, MergesAt}
 
 -- A caller's next call was tried, with this answer, and its event is noted where it has one. Nothing else changed.
@@ -120,15 +120,16 @@ pub record Spares (old new : CoreData) : Type 0 where
 abbrev pub BenchIs : CoreData → ℕ → (BenchData → Type 0) → Type 0
 BenchIs core vb P = (bench : BenchData) × (slice_get core.benches vb ≡ Some bench) × P bench
 
--- a step for which memory may be wanting: there is something to do for it
+-- A step for which memory may be wanting: there is something to do for it, and no room is at hand for the event of a commit, a mark
+-- or a merge.
 abbrev pub TakesMemory : CoreData → StepChoice → Type 0
 TakesMemory core (choices.Warm vb) = ⊥
 TakesMemory core (choices.Front caller now) = IsIdle core caller now → ⊥
 TakesMemory core (choices.TakeBatch vb) = ⊥
-TakesMemory core (choices.Commit vb) = BenchIs core vb (λ bench. IsSome bench.batch)
-TakesMemory core (choices.Mark vb stripe) = (vb < core.config.vbuckets) × (stripe < core.config.stripes)
+TakesMemory core (choices.Commit vb) = BenchIs core vb (λ bench. IsSome bench.batch) × LacksRoom core.world
+TakesMemory core (choices.Mark vb stripe) = (vb < core.config.vbuckets) × (stripe < core.config.stripes) × LacksRoom core.world
 TakesMemory core (choices.Read vb stripe) = BenchIs core vb (λ bench. bench.desk.doubt ≡ None) × HasWaiting (part_in core.world vb (Stripe stripe))
-TakesMemory core (choices.Merge vb stripe) = (stripe < core.config.stripes) × BenchIs core vb (λ bench. slice_get bench.reads stripe ≡ Some None → ⊥)
+TakesMemory core (choices.Merge vb stripe) = (stripe < core.config.stripes) × BenchIs core vb (λ bench. slice_get bench.reads stripe ≡ Some None → ⊥) × LacksRoom core.world
 TakesMemory core (choices.Page vb stripe) = ⊥
 TakesMemory core (choices.Expire vb stripe now) = ⊥
 

@@ -1,36 +1,21 @@
 -- An event that doesn't touch a part leaves that the part stands.
-use Rattle.std.proofs.Common.{◌≡◌, ◌≢◌, ℕ, true, false, List, [], ◌∷◌, ◌++◌, refl, sym, ap, subst, ◌∙◌, append-nil}
-use Rattle.std.specs.Prelude.{Option, Some, None, ◌==◌, ◌||◌, ◌&&◌, not, nat_lt, option_to_list}
+use Rattle.std.proofs.Common.{◌≡◌, ℕ, true, false, List, [], ◌∷◌, ◌++◌, sym, ap, subst, ◌∙◌, append-nil}
+use Rattle.std.specs.Prelude.{Option, nat_lt, option_to_list}
 use Rattle.std.specs.List.{AllByRecursion}
 use Rattle.std.specs.FinMap.{get}
-use Rattle.std.specs.Str.{bytes_eq}
-use Rattle.std.proofs.lemmas.Slice.Eq.{bytes_eq-Decides}
-use Rattle.ep_model.specs.declared.event.Cause.{Cause}
-use Rattle.ep_model.specs.declared.event.PartName.TheVariants.{Stripe, Queue, Desk}
-use Rattle.ep_model.specs.declared.event.Ticket.{Ticket}
-use Rattle.ep_model.specs.declared.config.Config.{Config}
-use Rattle.ep_model.specs.declared.data.CallData.{CallData}
-use Rattle.ep_model.specs.declared.data.CallData.TheVariants as calls
+use Rattle.ep_model.specs.declared.event.PartName.TheVariants.{Stripe, Queue}
 use Rattle.ep_model.specs.declared.data.EventData.{EventData}
-use Rattle.ep_model.specs.declared.data.EventData.TheVariants.{Called, Refused, Expired, Persisted, Marked, Asked, ReadFailed, Opened}
 use Rattle.ep_model.specs.declared.data.FrontData.{FrontData}
-use Rattle.ep_model.specs.World.{Doc, World, uuid_of}
-use Rattle.ep_model.specs.Stripes.{stripe_of}
-use Rattle.ep_model.specs.Answer.{Effect, Nothing, Puts, Sets, apply}
-use Rattle.ep_model.specs.History.{call_effect, step}
-use Rattle.ep_model.specs.Calls.{key_of}
+use Rattle.ep_model.specs.World.{Doc, uuid_of}
 use Rattle.ep_model.specs.Front.{begun, world_of, with_event, marked}
 use Rattle.ep_model.specs.Legal.{IsUnused, IsBelow, May, IsLegal}
-use Rattle.hold_stage.specs.Touches.{touches_call, touches}
-use Rattle.ep_model.specs.Mutations.{put_by, mutation_of, mutations, above}
-use Rattle.hold_stage.specs.Waits.{is_waiting, IsNoRead}
+use Rattle.hold_stage.specs.Touches.{touches}
+use Rattle.ep_model.specs.Mutations.{mutations, above}
+use Rattle.hold_stage.specs.Waits.{IsNoRead}
 use Rattle.hold_stage.proofs.ApartLemmas.{put_apart, unused_apart, no_read_apart, has_failed_later, waiting_later, world_stripe, world_queue, mutations_step, same_table}
-use Rattle.ep_model.proofs.EffectLemmas.{IsDone, call_done}
-use Rattle.hold_stage.proofs.Views.{SameStripe, SameQueue, frame_step, step_stripe, step_queue, step_mark, step_below, no_mutation, written_touches, touches_keyed, not_same, or_left, or_true_right}
-use Rattle.hold_stage.proofs.Later.{same_told, world_step, all_append}
-use Rattle.hold_stage.proofs.Legality.{has_more}
-use Rattle.hold_stage.proofs.Bounds.{marked_step, asked_may, waiting_step}
-use Rattle.hold_stage.proofs.Mutations.{mutations_append}
+use Rattle.hold_stage.proofs.Views.{step_mark, step_below, no_mutation}
+use Rattle.hold_stage.proofs.Later.{same_told, all_append}
+use Rattle.hold_stage.proofs.Bounds.{marked_step}
 use Rattle.flat_parts.specs.declared.data.Outcome.{Outcome}
 use Rattle.flat_parts.specs.declared.data.Outcome.TheVariants as outcomes
 use Rattle.flat_parts.specs.declared.data.PlaceData.{PlaceData}

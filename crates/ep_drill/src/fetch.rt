@@ -3,7 +3,7 @@ ghost use Rattle.std.specs.Prelude.{◌≡◌, ◌+◌, ◌≤◌, true, if◌th
 ghost use Rattle.ep_model.specs.declared.config.Eviction.TheVariants.{Value as ValueEviction};
 ghost use Rattle.ep_model.specs.declared.event.PartName.{PartName};
 ghost use Rattle.ep_model.specs.declared.event.PartName.TheVariants.{Stripe};
-ghost use Rattle.ep_model.specs.Limits.{max_value, IsKey};
+ghost use Rattle.ep_model.specs.Limits.{max_value, IsKey, IsValue};
 ghost use Rattle.ep_model.specs.Legal.{IsLegal};
 ghost use Rattle.hold_stage.specs.Touches.{there, is_stripe, same_part};
 ghost use Rattle.hold_stage.specs.Stays.{Stays};
@@ -13,12 +13,13 @@ ghost use Rattle.kv_keeper.specs.Desk.{IsSure};
 ghost use Rattle.flat_parts.specs.Nodes.{first_waiting};
 ghost use Rattle.ep_drill.specs.Stands.{StripeStands, DeskStands, FetchedStands};
 ghost use Rattle.ep_drill.specs.Calls.{AreHome, HasRoom, KeptBut};
-ghost use Rattle.ep_drill.specs.Fetches.{found_data, fetched_data, settles, IsOldest, IsFoundIn, IsBack, IsRead, IsMerged, Reads, WantsRead, ReadsOldest, HasWaiting};
+ghost use Rattle.ep_drill.specs.Fetches.{found_data, fetched_data, settles, IsOldest, IsRoom, IsFoundIn, IsBack, IsRead, IsMerged, Reads, WantsRead, ReadsOldest, HasWaiting};
 
 pub use crate::fetched::{Fetched, Found, Row};
 use crate::hold::{take_desk, take_stripe};
 use crate::part::Part;
-use ep_model::{Event, NoMemory, Out, PartName, Ticket};
+use ep_model::limits::MAX_VALUE;
+use ep_model::{Event, Meta, NoMemory, Out, PartName, Ticket};
 use flat_parts::{FlatStripe, Outcome, Residency};
 use hold_stage::Stage;
 use kv_keeper::{Desk, Keeper, Kept};
@@ -38,33 +39,60 @@ pub enum Merging {
     NoMemory,
 }
 
-// The oldest read that waits in a stripe: its ticket's number and a copy of its key.
-fn copy_oldest(alloc: Global, part: &FlatStripe) -> Result<Option<(u64, Vec<u8>)>, NoMemory>
+// The oldest read that waits in a stripe: its ticket's number, a copy of its key, and room for the value. All memory
+// that a read takes of its own is taken here, where no desk is in reach and before the store is asked.
+fn copy_oldest(
+    alloc: Global,
+    part: &FlatStripe,
+) -> Result<Option<(u64, Vec<u8>, Vec<u8>)>, NoMemory>
     ensures ok { IfOk result (IsOldest (first_waiting part.now.places)) }
     ensures err { OnErr result (IsSome (first_waiting part.now.places)) }
 {
     match part.oldest() {
         None => Ok(None),
-        Some(place) => Ok(Some((place.number, place.key.to_vec(alloc)?))),
+        Some(place) => {
+            let key = place.key.to_vec(alloc)?;
+            let room = Vec::with_capacity(alloc, MAX_VALUE)?;
+            Ok(Some((place.number, key, room)))
+        }
     }
 }
 
+// A document that was read, with its value in the room that was taken for it. What is left of that goes back.
+fn row_in(mut room: Vec<u8>, meta: Meta, value: &[u8]) -> Row
+    requires room { IsRoom room }
+    requires measured { meta.len ≡ length value.now }
+    requires fits { IsValue value.now }
+    ensures meta { result.meta ≡ meta }
+    ensures value { result.value.items ≡ value.now }
+{
+    let Ok(()) = room.extend_from_slice(value) else {
+        unreachable!()
+    };
+    room.shrink_to_fit();
+    Row { meta, value: room }
+}
+
 // What the store holds of a key.
-fn read_found<K: Keeper>(alloc: Global, desk: &mut Desk<K>, key: &[u8], value: &mut Out) -> Found
+fn read_found<K: Keeper>(
+    alloc: Global,
+    desk: &mut Desk<K>,
+    key: &[u8],
+    room: Vec<u8>,
+    value: &mut Out,
+) -> Found
     requires sure { IsSure desk.old }
     requires key { IsKey key.now }
+    requires room { IsRoom room }
     requires value { max_value ≤ value.old.spare + length value.old.bytes }
     ensures found { (c : Content) → desk.old.keeper.content ≡ Some c → IsFoundIn c key.now (found_data result) }
     ensures reads { Reads desk.old desk.new (found_data result) }
-    ensures memory { WantsRead desk.old key.now (found_data result) }
+    ensures memory { WantsRead desk.old (found_data result) }
     ensures value { value.new.spare + length value.new.bytes ≡ value.old.spare + length value.old.bytes }
 {
     value.cut(0);
     match desk.get(alloc, key, value) {
-        Kept::Good(Some(meta)) => match value.bytes().to_vec(alloc) {
-            Ok(value) => Found::Row(Row { meta, value }),
-            Err(_) => Found::NoMemory,
-        },
+        Kept::Good(Some(meta)) => Found::Row(row_in(room, meta, value.bytes())),
         Kept::Good(None) => Found::Absent,
         Kept::Failed => Found::Failed(desk.read_faults()),
         Kept::NoMemory => Found::NoMemory,
@@ -72,7 +100,7 @@ fn read_found<K: Keeper>(alloc: Global, desk: &mut Desk<K>, key: &[u8], value: &
 }
 
 /// Reads the document of the oldest call that waits in a stripe: none where none waits. No part is held while the
-/// store is asked. At an error memory was wanting for a copy of the key, and the store wasn't asked.
+/// store is asked. At an error memory was wanting for a copy of the key or for the value, and the store wasn't asked.
 pub(crate) fn fetch_read<S: Stage<Part = Part>, K: Keeper>(
     alloc: Global,
     desk: &mut Desk<K>,
@@ -104,8 +132,8 @@ pub(crate) fn fetch_read<S: Stage<Part = Part>, K: Keeper>(
     match oldest {
         Err(NoMemory) => Err(NoMemory),
         Ok(None) => Ok(None),
-        Ok(Some((number, key))) => {
-            let found = read_found(alloc, desk, &key, value);
+        Ok(Some((number, key, room))) => {
+            let found = read_found(alloc, desk, &key, room, value);
             let ticket = Ticket { stripe, number };
             Ok(Some(Fetched { ticket, key, found }))
         }

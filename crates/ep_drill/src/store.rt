@@ -11,6 +11,7 @@ ghost use Rattle.hold_stage.specs.Stays.{Stays};
 ghost use Rattle.hold_stage.specs.Grows.{Same, IsNone};
 ghost use Rattle.ep_model.specs.Mutations.{laid_on};
 ghost use Rattle.kv_keeper.specs.Batch.{laid, AreDistinct};
+ghost use Rattle.kv_keeper.specs.declared.data.DeskData.{DeskData};
 ghost use Rattle.kv_keeper.specs.Desk.{IsSure};
 ghost use Rattle.flat_parts.specs.Steps.{page_step};
 ghost use Rattle.ep_drill.specs.Stands.{DeskStands, BatchStands};
@@ -83,19 +84,18 @@ fn fill(queue: &FlatQueue, batch: &mut Batch) -> Result<(), NoMemory>
     Ok(())
 }
 
-/// Copies what isn't stored yet into a batch: none where all is stored.
-pub(crate) fn take_batch<S: Stage<Part = Part>, K: Keeper>(
+/// Copies what isn't stored yet into a batch: none where all is stored. It has no desk in reach, so that whether memory
+/// is wanting for the copies isn't read off one.
+pub(crate) fn take_batch<S: Stage<Part = Part>>(
     alloc: Global,
-    desk: &Desk<K>,
     stage: &mut S,
 ) -> Result<Option<Batch>, NoMemory>
-    requires desk { DeskStands (S.front stage.old) desk.now }
     requires telling { S.is_telling stage.old ≡ true }
     requires home { AreHome (S.front stage.old).config (S.tells stage.old) }
     requires free { IsNone (S.holds stage.old) }
     ensures stays { Stays S.lent S.fixed S.number S.is_desk S.is_telling stage.old stage.new }
     ensures front { S.front stage.new ≡ S.front stage.old }
-    ensures taken { IfOk result (IsTaken (S.front stage.old) desk.now.stored) }
+    ensures taken { IfOk result (λ batch. (desk : DeskData) → DeskStands (S.front stage.old) desk → IsTaken (S.front stage.old) desk.stored batch) }
     ensures err { OnErr result ((world_of (S.front stage.old)).high ≡ (world_of (S.front stage.old)).persisted → ⊥) }
     ensures parts { (p : PartName) → there (S.front stage.old).config p ≡ true → S.tells stage.new p ≡ S.tells stage.old p }
     ensures free { Same (S.holds stage.new) (S.holds stage.old) }

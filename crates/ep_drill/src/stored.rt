@@ -5,7 +5,7 @@ ghost use Rattle.ep_model.specs.Limits.{max_value};
 ghost use Rattle.vb_world.specs.World.{front_in, part_in, Sound};
 ghost use Rattle.ep_drill.specs.Parts.{part_stands};
 ghost use Rattle.ep_drill.specs.Fetches.{HasWaiting};
-ghost use Rattle.ep_drill.specs.Core.{bench_data, BenchStands, Ready, Moved, Rested, Worked};
+ghost use Rattle.ep_drill.specs.Core.{bench_data, BenchStands, LacksRoom, Ready, Moved, Rested, Worked};
 ghost use Rattle.ep_drill.specs.Works.{TakesAt, CommitsAt, FetchesAt, MergesAt};
 
 use crate::bench::Bench;
@@ -43,7 +43,7 @@ pub(crate) fn take_at<K: Keeper>(
     }
     bench.batch = None;
     let mut stage = world.stage(vb, WORKER);
-    let taken = take_batch(alloc, &bench.desk, &mut stage);
+    let taken = take_batch(alloc, &mut stage);
     let _count = world.count();
     match taken {
         Ok(Some(batch)) => {
@@ -56,8 +56,8 @@ pub(crate) fn take_at<K: Keeper>(
     }
 }
 
-/// Commits the batch, which is used up then: nothing is done where there is none. At an error nothing was done, and
-/// the batch stays.
+/// Commits the batch, which is used up then: nothing is done where there is none. At an error the history had no room
+/// for an event, nothing was done, and the batch stays.
 pub(crate) fn commit_at<K: Keeper>(
     alloc: Global,
     config: &Config,
@@ -70,7 +70,7 @@ pub(crate) fn commit_at<K: Keeper>(
     requires sound { Sound part_stands world.old }
     requires bench { BenchStands (front_in world.old vb) (bench_data bench.old) }
     ensures ok { IfOk result (λ answer. CommitsAt config.now vb answer world.old world.new (bench_data bench.old) (bench_data bench.new)) }
-    ensures err { OnErr result (Rested config.now world.old world.new × (bench_data bench.new ≡ bench_data bench.old) × IsSome (bench_data bench.old).batch) }
+    ensures err { OnErr result (Rested config.now world.old world.new × (bench_data bench.new ≡ bench_data bench.old) × IsSome (bench_data bench.old).batch × LacksRoom world.old) }
     ensures worked { Worked config.now vb world.old world.new }
     ensures bench { BenchStands (front_in world.new vb) (bench_data bench.new) }
     ensures sound { Sound part_stands world.new }
@@ -156,8 +156,8 @@ pub(crate) fn read_at<K: Keeper>(
     read_sure(alloc, config, world, vb, bench, stripe, value)
 }
 
-/// Ends a read for whoever still waits for it: nothing is done where there is none. Where memory is wanting the read
-/// stays.
+/// Ends a read for whoever still waits for it: nothing is done where there is none. Where memory is wanting, for an
+/// event for which the history has no room, the read stays.
 pub(crate) fn merge_at<K: Keeper>(
     config: &Config,
     world: &mut World<Part>,
@@ -171,7 +171,7 @@ pub(crate) fn merge_at<K: Keeper>(
     requires sound { Sound part_stands world.old }
     requires bench { BenchStands (front_in world.old vb) (bench_data bench.old) }
     ensures ok { IfOk result (λ answer. MergesAt config.now vb stripe answer world.old world.new (bench_data bench.old) (bench_data bench.new)) }
-    ensures err { OnErr result (Rested config.now world.old world.new × (bench_data bench.new ≡ bench_data bench.old) × (slice_get (bench_data bench.old).reads stripe ≡ Some None → ⊥)) }
+    ensures err { OnErr result (Rested config.now world.old world.new × (bench_data bench.new ≡ bench_data bench.old) × (slice_get (bench_data bench.old).reads stripe ≡ Some None → ⊥) × LacksRoom world.old) }
     ensures worked { Worked config.now vb world.old world.new }
     ensures bench { BenchStands (front_in world.new vb) (bench_data bench.new) }
     ensures sound { Sound part_stands world.new }

@@ -239,8 +239,30 @@ fn failed_read(number: u64) -> [Seen; 4] {
     ]
 }
 
+/// The answers behind four failed reads, of which no step tells anything: another key is set, stored, ejected, and read.
+fn goes_on() -> [Seen; 9] {
+    let ticket = Ticket {
+        stripe: 0,
+        number: 5,
+    };
+    [
+        Seen::Status(0x00),
+        Seen::Other(Answer::Took(1)),
+        Seen::Other(Answer::Flushed(Flushed::Stored(2))),
+        Seen::Other(Answer::Marked(Marking::Raised(2))),
+        Seen::Other(Answer::Paged(Paged {
+            used: 2,
+            ejected: 1,
+        })),
+        Seen::Other(Answer::Tried(Tried::Fetch(ticket))),
+        Seen::Other(Answer::Read(true)),
+        Seen::Other(Answer::Merged(Merging::Merged)),
+        Seen::Status(0x00),
+    ]
+}
+
 #[test]
-fn each_of_four_reads_that_fail_is_a_temporary_failure(rt: HostRuntime) -> Result<(), Fail> {
+fn a_core_goes_on_behind_four_failed_reads(rt: HostRuntime) -> Result<(), Fail> {
     let alloc = rt.alloc();
     let mut core = core_of(alloc, &[0, 1, 2, 3])?;
     load_set(alloc, &mut core, 0, b"k", &LONG)?;
@@ -248,6 +270,8 @@ fn each_of_four_reads_that_fail_is_a_temporary_failure(rt: HostRuntime) -> Resul
     load_get(alloc, &mut core, 0, b"k")?;
     load_get(alloc, &mut core, 0, b"k")?;
     load_get(alloc, &mut core, 0, b"k")?;
+    load_set(alloc, &mut core, 1, b"m", &LONG)?;
+    load_get(alloc, &mut core, 1, b"m")?;
     let steps = [front(0), TAKE, COMMIT, MARK, PAGE];
     let stored = stored_and_read();
     expect(&rt, alloc, &mut core, &steps, &stored[..5])?;
@@ -255,6 +279,19 @@ fn each_of_four_reads_that_fail_is_a_temporary_failure(rt: HostRuntime) -> Resul
         let steps = [front(0), READ, MERGE, front(0)];
         expect(&rt, alloc, &mut core, &steps, &failed_read(number))?;
     }
+    let more = [
+        front(1),
+        TAKE,
+        COMMIT,
+        MARK,
+        PAGE,
+        front(1),
+        READ,
+        MERGE,
+        front(1),
+    ];
+    expect(&rt, alloc, &mut core, &more, &goes_on())?;
+    assert!(rt; shows_last(core, &LONG));
     Ok(())
 }
 

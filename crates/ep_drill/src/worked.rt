@@ -13,7 +13,7 @@ ghost use Rattle.ep_drill.specs.Stands.{PriorsStand};
 ghost use Rattle.ep_drill.specs.Calls.{event_of, KeptBut};
 ghost use Rattle.ep_drill.specs.StoreSide.{IsPaged};
 ghost use Rattle.ep_drill.specs.Callers.{owned_data};
-ghost use Rattle.ep_drill.specs.Core.{bench_data, BenchStands, Ready, Moved, Rested, Worked};
+ghost use Rattle.ep_drill.specs.Core.{bench_data, BenchStands, LacksRoom, Ready, Moved, Rested, Worked};
 ghost use Rattle.ep_drill.specs.Tries.{ComesToGet, ComesToSet, ComesTo};
 ghost use Rattle.ep_drill.specs.Works.{MarksAt};
 
@@ -145,7 +145,7 @@ pub(crate) fn try_loaded(
     }
 }
 
-/// Tells a stripe what is stored.
+/// Tells a stripe what is stored. Memory is wanting only where the history has no room for an event.
 pub(crate) fn mark_at<K: Keeper>(
     config: &Config,
     world: &mut World<Part>,
@@ -158,7 +158,7 @@ pub(crate) fn mark_at<K: Keeper>(
     requires stripe { stripe < config.now.stripes }
     requires bench { BenchStands (front_in world.old vb) (bench_data bench.now) }
     ensures ok { IfOk result (λ answer. MarksAt config.now vb stripe answer world.old world.new (bench_data bench.now) (bench_data bench.now)) }
-    ensures err { OnErr result (Rested config.now world.old world.new) }
+    ensures err { OnErr result (Rested config.now world.old world.new × LacksRoom world.old) }
     ensures worked { Worked config.now vb world.old world.new }
     ensures bench { BenchStands (front_in world.new vb) (bench_data bench.now) }
     ensures sound { Sound part_stands world.new }
