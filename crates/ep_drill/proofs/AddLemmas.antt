@@ -17,10 +17,10 @@ use Rattle.vb_world.specs.declared.data.BucketData.{BucketData}
 use Rattle.vb_world.specs.declared.data.WorldData.{WorldData}
 use Rattle.vb_world.specs.declared.data.FixedData.{FixedData}
 use Rattle.vb_world.specs.World.{slot_of, place_at, home_of, part_in, has_out, front_in, fixed_in, bare_front, bucket_of, with_bucket, Sound}
-use Rattle.vb_world.proofs.Lists.{get_within, get_push_last}
+use Rattle.vb_world.proofs.ListLemmas.{get_within, get_push_last}
 use Rattle.hold_stage.proofs.SlotLemmas.{slot_within}
-use Rattle.vb_world.proofs.Places.{home_within, part_there, part_pushed}
-use Rattle.vb_world.proofs.Sounds.{front_pushed, front_bare}
+use Rattle.vb_world.proofs.PlaceLemmas.{home_within, part_there, part_pushed}
+use Rattle.vb_world.proofs.SoundLemmas.{front_pushed, front_bare}
 use Rattle.ep_drill.specs.declared.part.Part.{Part}
 use Rattle.ep_drill.specs.Parts.{part_stands}
 use Rattle.ep_drill.specs.Calls.{AreHome}

@@ -25,11 +25,11 @@ use Rattle.ep_model.specs.Answer.{Answer, unless, refused, answer_get, answer_ro
 use Rattle.ep_model.specs.Front.{world_of, with_event, marked}
 use Rattle.ep_model.specs.Legal.{IsUnused, IsBelow, WaitsAt, Caused, IsAway, MayAsk, May, AreLegal, IsLegal}
 use Rattle.hold_stage.specs.Waits.{is_ask, IsNoRead}
-use Rattle.hold_stage.proofs.Callers.{same_is}
-use Rattle.hold_stage.proofs.Views.{or_true_left}
-use Rattle.hold_stage.proofs.Later.{world_step, all_append}
-use Rattle.hold_stage.proofs.Legality.{all_front}
-use Rattle.hold_stage.proofs.Bounds.{not_asked, fresh_unused, waiting_step}
+use Rattle.hold_stage.proofs.CallerLemmas.{same_is}
+use Rattle.hold_stage.proofs.ViewLemmas.{or_true_left}
+use Rattle.hold_stage.proofs.LaterLemmas.{world_step, all_append}
+use Rattle.hold_stage.proofs.LegalLemmas.{all_front}
+use Rattle.hold_stage.proofs.BoundLemmas.{not_asked, fresh_unused, waiting_step}
 use Rattle.flat_parts.specs.declared.data.NodeData.{NodeData}
 use Rattle.flat_parts.specs.declared.data.Outcome.{Outcome}
 use Rattle.flat_parts.specs.declared.data.Outcome.TheVariants as outcomes

@@ -16,7 +16,7 @@ use Rattle.kv_keeper.specs.declared.data.BatchData.{BatchData}
 use Rattle.kv_keeper.specs.declared.data.DeskData.{DeskData}
 use Rattle.kv_keeper.specs.Content.{Content, KeeperData, empty_content}
 use Rattle.kv_keeper.specs.Desk.{new_desk, after_failed_read}
-use Rattle.hold_stage.proofs.Later.{same_told}
+use Rattle.hold_stage.proofs.LaterLemmas.{same_told}
 use Rattle.hold_stage.proofs.RisesLemmas.{opened_stays, may_of, started_low}
 use Rattle.ep_drill.specs.declared.data.BenchData.{BenchData}
 use Rattle.ep_drill.specs.declared.part.Part.{Part}

@@ -28,7 +28,7 @@ use Rattle.ep_drill.specs.Fetches.{fetched_data, IsMerged, IsRead, ReadsOldest}
 use Rattle.ep_drill.specs.Core.{BenchStands, Ready, Moved, Rested, count_of}
 use Rattle.ep_drill.specs.Works.{WasTaken, WasDropped, WasFlushed, WasFetched, WasMerged, reads_after}
 use Rattle.ep_drill.proofs.MergedLemmas.{get_mapped, flushed_moved, merged_moved}
-use Rattle.ep_drill.proofs.Lists.{set_same}
+use Rattle.ep_drill.proofs.ListLemmas.{set_same}
 use Rattle.ep_drill.proofs.WorkedLemmas.{moved_still, layout_with_room, kept_at}
 use Rattle.ep_drill.proofs.WorldLemmas.{parts_kept}
 

@@ -6,7 +6,7 @@ use Rattle.std.specs.List.{zip, AllByRecursion}
 use Rattle.ep_model.specs.declared.config.Config.{Config}
 use Rattle.vb_world.specs.declared.data.WorldData.{WorldData}
 use Rattle.vb_world.specs.World.{Sound}
-use Rattle.vb_world.proofs.Lists.{all-get, all-push}
+use Rattle.vb_world.proofs.ListLemmas.{all-get, all-push}
 use Rattle.ep_drill.specs.declared.data.CallerData.{CallerData}
 use Rattle.ep_drill.specs.declared.part.Part.{Part}
 use Rattle.ep_drill.specs.Parts.{part_stands}

@@ -17,7 +17,7 @@ use Rattle.ep_model.specs.Stripes.{stripe_of}
 use Rattle.ep_model.specs.Legal.{May, IsLegal}
 use Rattle.hold_stage.specs.Touches.{is_stripe, touches_call, touches}
 use Rattle.hold_stage.specs.Grows.{Same, and_this, Covered}
-use Rattle.hold_stage.proofs.Callers.{same_is}
+use Rattle.hold_stage.proofs.CallerLemmas.{same_is}
 use Rattle.flat_parts.specs.declared.data.StripeData.{StripeData}
 use Rattle.flat_parts.specs.declared.data.QueueData.{QueueData}
 use Rattle.flat_parts.specs.declared.data.Step.{Step}

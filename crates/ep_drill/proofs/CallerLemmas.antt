@@ -12,8 +12,8 @@ use Rattle.ep_model.specs.declared.data.EventData.TheVariants as events
 use Rattle.ep_model.specs.declared.data.FrontData.{FrontData}
 use Rattle.ep_model.specs.Legal.{IsSilent}
 use Rattle.hold_stage.specs.Touches.{is_call}
-use Rattle.hold_stage.proofs.Callers.{same_is}
-use Rattle.vb_world.proofs.Lists.{all-push, get_push}
+use Rattle.hold_stage.proofs.CallerLemmas.{same_is}
+use Rattle.vb_world.proofs.ListLemmas.{all-push, get_push}
 use Rattle.ep_drill.specs.declared.data.CallerData.{CallerData}
 use Rattle.flat_parts.specs.declared.data.Step.{Step}
 use Rattle.flat_parts.specs.declared.data.Step.TheVariants as steps

@@ -22,7 +22,7 @@ use Rattle.kv_keeper.specs.Content.{KeeperData, empty_content}
 use Rattle.vb_world.specs.declared.data.WorldData.{WorldData}
 use Rattle.vb_world.specs.History.{events_of}
 use Rattle.vb_world.specs.World.{front_in, Sound}
-use Rattle.vb_world.proofs.Lists.{all-get, all-push}
+use Rattle.vb_world.proofs.ListLemmas.{all-get, all-push}
 use Rattle.ep_drill.specs.declared.part.Part.{Part}
 use Rattle.ep_drill.specs.declared.data.BenchData.{BenchData}
 use Rattle.ep_drill.specs.declared.data.CallerData.{CallerData}

@@ -5,7 +5,7 @@ use Rattle.std.specs.Option.{option_map}
 use Rattle.std.proofs.lemmas.Bool.{cases_eq}
 use Rattle.std.proofs.lemmas.List.{append-nil, map-set}
 use Rattle.std.proofs.lemmas.Option.{slice_get-get_or, slice_get-map, slice_get_within}
-use Rattle.vb_world.proofs.Lists.{map-set_kept}
+use Rattle.vb_world.proofs.ListLemmas.{map-set_kept}
 use Rattle.ep_model.specs.declared.config.Config.{Config}
 use Rattle.ep_model.specs.declared.data.EventData.{EventData}
 use Rattle.ep_model.specs.declared.data.FrontData.{FrontData}
@@ -19,7 +19,7 @@ use Rattle.ep_drill.specs.declared.data.CoreData.{CoreData}
 use Rattle.ep_drill.specs.Parts.{part_stands}
 use Rattle.hold_stage.specs.Went.{with_noted}
 use Rattle.ep_drill.specs.Core.{bench_data, core_data, BenchStands, Moved, Worked, Interleaves, Continues, GoesOn}
-use Rattle.ep_drill.proofs.Lists.{set_same}
+use Rattle.ep_drill.proofs.ListLemmas.{set_same}
 use Rattle.ep_drill.proofs.WorkedLemmas.{worked_by}
 use Rattle.ep_drill.proofs.CoreLemmas.{core_worked, core_rested}
 

@@ -22,7 +22,7 @@ use Rattle.ep_model.specs.Legal.{IsNoFault, May, IsLegal}
 use Rattle.hold_stage.specs.Touches.{there, same_part, touches, is_call, is_of, is_desks}
 use Rattle.hold_stage.specs.Grows.{Same, and_this, Covered, IsOwn}
 use Rattle.hold_stage.specs.Waits.{is_waiting}
-use Rattle.hold_stage.proofs.Later.{world_step}
+use Rattle.hold_stage.proofs.LaterLemmas.{world_step}
 use Rattle.kv_keeper.specs.declared.data.DeskData.{DeskData}
 use Rattle.kv_keeper.specs.Content.{Content}
 use Rattle.flat_parts.specs.declared.data.NodeData.{NodeData}

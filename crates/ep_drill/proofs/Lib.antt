@@ -1,4 +1,4 @@
-pub mod Lists
+pub mod ListLemmas
 pub mod ReadLemmas
 pub mod AskLemmas
 pub mod StoreLemmas

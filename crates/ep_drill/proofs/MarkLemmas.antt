@@ -11,8 +11,8 @@ use Rattle.ep_model.specs.Legal.{May, MayMark, IsLegal}
 use Rattle.hold_stage.specs.Touches.{there, is_stripe}
 use Rattle.hold_stage.specs.Grows.{Grown, Noted}
 use Rattle.hold_stage.specs.Went.{with_noted}
-use Rattle.hold_stage.proofs.Callers.{same_is}
-use Rattle.hold_stage.proofs.Bounds.{legal_bounds, marked_step}
+use Rattle.hold_stage.proofs.CallerLemmas.{same_is}
+use Rattle.hold_stage.proofs.BoundLemmas.{legal_bounds, marked_step}
 use Rattle.hold_stage.proofs.RisesLemmas.{may_of, opened_unmarked}
 use Rattle.hold_stage.proofs.DeskLemmas.{grown_stored}
 use Rattle.hold_stage.proofs.OwnLemmas.{stripe_is}

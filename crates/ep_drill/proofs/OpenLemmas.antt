@@ -17,7 +17,7 @@ use Rattle.ep_model.specs.Legal.{May}
 use Rattle.hold_stage.specs.Touches.{there, touches, is_of, is_call, is_desks}
 use Rattle.hold_stage.specs.Grows.{Covered, IsOwn}
 use Rattle.vb_world.specs.World.{name_of, bare_front, StandBare}
-use Rattle.vb_world.proofs.Lists.{get_push, get_push_last}
+use Rattle.vb_world.proofs.ListLemmas.{get_push, get_push_last}
 use Rattle.ep_drill.specs.declared.part.Part.{Part}
 use Rattle.ep_drill.specs.declared.part.Part.TheVariants as parts
 use Rattle.flat_parts.specs.declared.data.StripeData.{StripeData}

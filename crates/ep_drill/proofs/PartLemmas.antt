@@ -17,10 +17,10 @@ use Rattle.ep_model.specs.History.{upto}
 use Rattle.ep_model.specs.Front.{begun, world_of, with_event, marked}
 use Rattle.ep_model.specs.Legal.{IsUnused, IsBelow, IsNoFault, HasAsked, HasFailedRead, May, IsLegal}
 use Rattle.ep_model.specs.Mutations.{mutations, above}
-use Rattle.hold_stage.proofs.Callers.{same_is}
-use Rattle.hold_stage.proofs.Later.{same_told, world_step, all_append}
-use Rattle.hold_stage.proofs.Bounds.{legal_bounds, marked_step}
-use Rattle.hold_stage.proofs.Stored.{above_above}
+use Rattle.hold_stage.proofs.CallerLemmas.{same_is}
+use Rattle.hold_stage.proofs.LaterLemmas.{same_told, world_step, all_append}
+use Rattle.hold_stage.proofs.BoundLemmas.{legal_bounds, marked_step}
+use Rattle.hold_stage.proofs.StoredLemmas.{above_above}
 use Rattle.kv_keeper.specs.declared.data.BatchData.{BatchData}
 use Rattle.kv_keeper.specs.declared.data.DeskData.{DeskData}
 use Rattle.kv_keeper.specs.Content.{Content, KeeperData}

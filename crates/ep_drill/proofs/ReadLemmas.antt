@@ -18,8 +18,8 @@ use Rattle.ep_model.specs.Legal.{IsUnused, IsBelow, May}
 use Rattle.ep_model.specs.Mutations.{put_by, mutation_of}
 use Rattle.hold_stage.specs.Waits.{puts_on, IsNoRead}
 use Rattle.ep_model.proofs.EffectLemmas.{get_done}
-use Rattle.hold_stage.proofs.Later.{same_told, world_step, all_append}
-use Rattle.hold_stage.proofs.Bounds.{marked_step}
+use Rattle.hold_stage.proofs.LaterLemmas.{same_told, world_step, all_append}
+use Rattle.hold_stage.proofs.BoundLemmas.{marked_step}
 use Rattle.flat_parts.specs.declared.data.Outcome.{Outcome}
 use Rattle.flat_parts.specs.declared.data.Outcome.TheVariants as outcomes
 use Rattle.flat_parts.specs.declared.data.PlaceData.{PlaceData}

@@ -27,13 +27,13 @@ use Rattle.ep_model.specs.History.{call_effect}
 use Rattle.ep_model.specs.Answer.{Effect, Nothing, Puts, Sets, Answer, unless, cas_of, puts, stores, answer, apply}
 use Rattle.ep_model.specs.Front.{begun, world_of, with_event, marked}
 use Rattle.ep_model.specs.Legal.{IsUnused, IsBelow, May, IsLegal}
-use Rattle.ep_model.proofs.ReadBack.{get-put, get-put_other}
+use Rattle.ep_model.proofs.ReadBackLemmas.{get-put, get-put_other}
 use Rattle.ep_model.specs.Mutations.{put_by, mutation_of, mutations, above}
 use Rattle.hold_stage.specs.Waits.{puts_on, IsNoRead}
 use Rattle.ep_model.proofs.EffectLemmas.{IsNext, answer_is_next, call_told}
-use Rattle.hold_stage.proofs.Views.{frame_after}
-use Rattle.hold_stage.proofs.Later.{same_told, world_step, all_append}
-use Rattle.hold_stage.proofs.Bounds.{marked_step, legal_bounds}
+use Rattle.hold_stage.proofs.ViewLemmas.{frame_after}
+use Rattle.hold_stage.proofs.LaterLemmas.{same_told, world_step, all_append}
+use Rattle.hold_stage.proofs.BoundLemmas.{marked_step, legal_bounds}
 use Rattle.flat_parts.specs.declared.data.NodeData.{NodeData}
 use Rattle.flat_parts.specs.declared.data.Outcome.{Outcome}
 use Rattle.flat_parts.specs.declared.data.Outcome.TheVariants as outcomes

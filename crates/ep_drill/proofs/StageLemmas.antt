@@ -10,9 +10,9 @@ use Rattle.ep_model.specs.World.{Doc, Docs, World}
 use Rattle.ep_model.specs.Front.{begun, world_of, with_event}
 use Rattle.ep_model.specs.Legal.{May, IsLegal}
 use Rattle.ep_model.specs.Mutations.{mutations, above, laid_on}
-use Rattle.hold_stage.proofs.Later.{world_step}
-use Rattle.hold_stage.proofs.Bounds.{legal_bounds}
-use Rattle.hold_stage.proofs.Stored.{laid_append}
+use Rattle.hold_stage.proofs.LaterLemmas.{world_step}
+use Rattle.hold_stage.proofs.BoundLemmas.{legal_bounds}
+use Rattle.hold_stage.proofs.StoredLemmas.{laid_append}
 use Rattle.kv_keeper.specs.declared.data.BatchData.{BatchData}
 use Rattle.kv_keeper.specs.declared.data.DeskData.{DeskData}
 use Rattle.kv_keeper.specs.declared.keeper.StoreState.{StoreState}

@@ -7,7 +7,7 @@ use Rattle.ep_model.specs.declared.config.Eviction.TheVariants.{Value}
 use Rattle.ep_model.specs.declared.data.EventData.TheVariants as events
 use Rattle.ep_model.specs.Config.{config_fault}
 use Rattle.ep_model.specs.Front.{empty_start}
-use Rattle.vb_world.specs.World.{front_in, empty_world}
+use Rattle.vb_world.specs.World.{front_in, no_buckets}
 use Rattle.ep_model.specs.declared.config.Config.{Config}
 use Rattle.ep_model.specs.declared.data.CallData.{CallData}
 use Rattle.vb_world.specs.declared.data.WorldData.{WorldData}
@@ -100,7 +100,7 @@ core_pushes (Err u) config world benches old new now i loaded stands view within
     subst (λ (l : List CallerData). Interleaves (record core { callers = l })) (sym err) stands
 
 -- no vBucket is there yet
-pub none_opened : (config : Config) (world : WorldData Part) → world ≡ empty_world config → FirstOpened config 0 world
+pub none_opened : (config : Config) (world : WorldData Part) → world ≡ no_buckets config → FirstOpened config 0 world
 none_opened config world is = subst (λ (w : WorldData Part). FirstOpened config 0 w) (sym is) (record { layout = refl; count = refl; fronts = λ vb low. absurd (omega arith); home = λ vb low. absurd (omega arith) })
 
 below_last : (vb n m : ℕ) → vb < m → m ≡ n + 1 → vb ≢ n → vb < n

@@ -3,7 +3,7 @@ use Rattle.std.proofs.Common.{◌≡◌, ◌<◌, inl, inr, ℕ, ◌+◌, List, 
 use Rattle.std.specs.Prelude.{Some, None, Result, Ok, Err, IfOk, OnErr}
 use Rattle.std.proofs.lemmas.List.{map-set, take_more}
 use Rattle.std.proofs.lemmas.Option.{slice_get-get_or}
-use Rattle.vb_world.proofs.Lists.{map-set_kept}
+use Rattle.vb_world.proofs.ListLemmas.{map-set_kept}
 use Rattle.ep_model.specs.declared.config.Config.{Config}
 use Rattle.ep_model.specs.declared.event.PartName.TheVariants.{Stripe}
 use Rattle.hold_stage.specs.Touches.{is_stripe}
@@ -23,7 +23,7 @@ use Rattle.ep_drill.specs.Core.{bench_data, core_data, Moved, Rested, Interleave
 use Rattle.ep_drill.specs.Fetches.{HasWaiting}
 use Rattle.ep_drill.specs.Stepped.{AtBench, BenchIs, IsBenched, WasPaged, Ran, RanSome, Spares, Stepped, TakesMemory}
 use Rattle.ep_drill.proofs.EngineLemmas.{bench_at}
-use Rattle.ep_drill.proofs.Lists.{set_same}
+use Rattle.ep_drill.proofs.ListLemmas.{set_same}
 
 -- a core's history has no room for one event more
 lacks_room : {K : Type 0} (old : CoreData) (config : Config) (w : WorldData Part) (benches : List (Bench K)) (callers : List Caller) → core_data config w benches callers ≡ old → LacksRoom w → LacksRoom old.world

@@ -17,11 +17,11 @@ use Rattle.ep_model.specs.Legal.{IsBelow, IsNoFault, HasAsked, May, IsLegal}
 use Rattle.hold_stage.specs.Touches.{is_desks}
 use Rattle.ep_model.specs.Mutations.{mutation_of, mutations, above, laid_on}
 use Rattle.hold_stage.specs.Waits.{is_on, puts_on, is_ask, is_waiting, waits_after}
-use Rattle.hold_stage.proofs.Later.{same_told, world_step, all_append}
-use Rattle.hold_stage.proofs.Legality.{has_more, one_asker}
-use Rattle.hold_stage.proofs.Bounds.{legal_bounds, all_in, waiting_step}
-use Rattle.hold_stage.proofs.Mutations.{upto_append}
-use Rattle.hold_stage.proofs.Stored.{upto_last, doc_upto}
+use Rattle.hold_stage.proofs.LaterLemmas.{same_told, world_step, all_append}
+use Rattle.hold_stage.proofs.LegalLemmas.{has_more, one_asker}
+use Rattle.hold_stage.proofs.BoundLemmas.{legal_bounds, all_in, waiting_step}
+use Rattle.hold_stage.proofs.MutationLemmas.{upto_append}
+use Rattle.hold_stage.proofs.StoredLemmas.{upto_last, doc_upto}
 use Rattle.kv_keeper.specs.declared.data.BatchData.{BatchData}
 use Rattle.kv_keeper.specs.declared.data.DeskData.{DeskData}
 use Rattle.kv_keeper.specs.Content.{Content, KeeperData}

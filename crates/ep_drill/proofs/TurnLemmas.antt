@@ -6,8 +6,8 @@ use Rattle.std.specs.List.{AllByRecursion}
 use Rattle.std.proofs.lemmas.Bool.{cases_eq}
 use Rattle.std.proofs.lemmas.List.{append-nil, append_assoc, map-set}
 use Rattle.std.proofs.lemmas.Option.{slice_get-map, slice_get_past}
-use Rattle.vb_world.proofs.Lists.{map-set_kept}
-use Rattle.ep_drill.proofs.Lists.{set_same}
+use Rattle.vb_world.proofs.ListLemmas.{map-set_kept}
+use Rattle.ep_drill.proofs.ListLemmas.{set_same}
 use Rattle.ep_model.specs.Limits.{end_of_moments, IsMoment}
 use Rattle.ep_model.specs.declared.config.Config.{Config}
 use Rattle.ep_model.specs.declared.data.CallData.{CallData}

@@ -13,9 +13,9 @@ use Rattle.hold_stage.specs.Touches.{touches}
 use Rattle.ep_model.specs.Mutations.{mutations, above}
 use Rattle.hold_stage.specs.Waits.{IsNoRead}
 use Rattle.hold_stage.proofs.ApartLemmas.{put_apart, unused_apart, no_read_apart, has_failed_later, waiting_later, world_stripe, world_queue, mutations_step, same_table}
-use Rattle.hold_stage.proofs.Views.{step_mark, step_below, no_mutation}
-use Rattle.hold_stage.proofs.Later.{same_told, all_append}
-use Rattle.hold_stage.proofs.Bounds.{marked_step}
+use Rattle.hold_stage.proofs.ViewLemmas.{step_mark, step_below, no_mutation}
+use Rattle.hold_stage.proofs.LaterLemmas.{same_told, all_append}
+use Rattle.hold_stage.proofs.BoundLemmas.{marked_step}
 use Rattle.flat_parts.specs.declared.data.Outcome.{Outcome}
 use Rattle.flat_parts.specs.declared.data.Outcome.TheVariants as outcomes
 use Rattle.flat_parts.specs.declared.data.PlaceData.{PlaceData}

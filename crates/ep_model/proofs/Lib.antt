@@ -1,7 +1,7 @@
 pub mod DecimalLemmas
 pub mod EffectLemmas
 pub mod HistoryLemmas
-pub mod PlainAnswers
+pub mod PlainAnswerLemmas
 pub mod PlainLemmas
-pub mod ReadBack
-pub mod Touches
+pub mod ReadBackLemmas
+pub mod TouchLemmas

@@ -12,10 +12,10 @@ use Rattle.ep_model.specs.Answer.{answer, apply, Effect, Nothing, Puts, Sets}
 use Rattle.ep_model.specs.Front.{empty_start, begun, world_of}
 use Rattle.ep_model.specs.Legal.{May, IsLegal}
 use Rattle.ep_model.proofs.EffectLemmas.{call_told}
-use Rattle.hold_stage.proofs.Views.{frame_after}
+use Rattle.hold_stage.proofs.ViewLemmas.{frame_after}
 use Rattle.ep_model.proofs.HistoryLemmas.{after-append, legal-push, legal-bare}
 use Rattle.vb_world.specs.History.{events_of, under}
-use Rattle.vb_world.proofs.Histories.{events_of-push, under-append}
+use Rattle.vb_world.proofs.HistoryLemmas.{events_of-push, under-append}
 use Rattle.mcbp_frame.specs.declared.frame.FrameData.{FrameData}
 use Rattle.mcbp_ops.specs.Text.{reply_text}
 use Rattle.conn_core.specs.declared.act.ActData.{ActData}

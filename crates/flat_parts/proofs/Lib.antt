@@ -1,4 +1,4 @@
-pub mod Lists
+pub mod ListLemmas
 pub mod PlaceLemmas
 pub mod NodeLemmas
 pub mod QueueLemmas

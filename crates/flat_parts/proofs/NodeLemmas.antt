@@ -16,7 +16,7 @@ use Rattle.flat_parts.specs.declared.data.NodeData.{NodeData}
 use Rattle.flat_parts.specs.declared.node.Node.{Node}
 use Rattle.flat_parts.specs.Nodes.{node_at, put_node, ejected, is_ejectable, node_blocks}
 use Rattle.flat_parts.specs.Flat.{node_data, nodes_data, place_of}
-use Rattle.flat_parts.proofs.Lists.{find-map, swept, swept-more, swept-all, swept-at}
+use Rattle.flat_parts.proofs.ListLemmas.{find-map, swept, swept-more, swept-all, swept-at}
 
 at-find : (ds : List NodeData) (key : List ℕ) → find (λ (d : NodeData). bytes_eq d.key key) ds ≡ node_at ds key
 at-find [] key = refl

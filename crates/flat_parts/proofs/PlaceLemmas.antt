@@ -13,7 +13,7 @@ use Rattle.flat_parts.specs.declared.data.PlaceData.{PlaceData}
 use Rattle.flat_parts.specs.declared.place.Place.{Place}
 use Rattle.flat_parts.specs.Nodes.{is_waiting_outcome, first_waiting, outcome_at, released, forgotten, settled, settle_place, is_not_numbered}
 use Rattle.flat_parts.specs.Flat.{place_data, places_data}
-use Rattle.flat_parts.proofs.Lists.{find-map, filter-map, swept, swept-all}
+use Rattle.flat_parts.proofs.ListLemmas.{find-map, filter-map, swept, swept-all}
 
 waiting-find : (ds : List PlaceData) → find (λ (d : PlaceData). is_waiting_outcome d.outcome) ds ≡ first_waiting ds
 waiting-find [] = refl

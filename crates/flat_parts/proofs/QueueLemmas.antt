@@ -7,7 +7,7 @@ use Rattle.ep_model.specs.Mutations.{above}
 use Rattle.flat_parts.specs.declared.data.QueueData.{QueueData}
 use Rattle.flat_parts.specs.declared.queue.Item.{Item}
 use Rattle.flat_parts.specs.Flat.{item_data, items_data, queue_data}
-use Rattle.flat_parts.proofs.Lists.{filter-map}
+use Rattle.flat_parts.proofs.ListLemmas.{filter-map}
 
 -- a queue of which the stored mutations were dropped
 pub persisted-kept : (q : QueueData) (items new : List Item) (high maxcas persisted : ℕ) (state : VbState) (opened : Bool) (uuid number : ℕ) → queue_data items high maxcas persisted state opened uuid ≡ q → new ≡ filter (λ (item : Item). nat_lt number item.document.meta.seqno) items → queue_data new high maxcas number state opened uuid ≡ record q { items = above number q.items; persisted = number }

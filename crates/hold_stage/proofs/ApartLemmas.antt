@@ -21,11 +21,11 @@ use Rattle.ep_model.specs.Mutations.{put_by, mutation_of, mutations}
 use Rattle.ep_model.proofs.EffectLemmas.{IsDone, call_done}
 use Rattle.hold_stage.specs.Touches.{touches_call, touches}
 use Rattle.hold_stage.specs.Waits.{puts_on, is_ask, is_waiting, IsNoRead}
-use Rattle.hold_stage.proofs.Views.{SameStripe, SameQueue, frame_step, step_stripe, step_queue, written_touches, touches_keyed, not_same, or_left, or_true_right}
-use Rattle.hold_stage.proofs.Later.{world_step, persisted_apply}
-use Rattle.hold_stage.proofs.Legality.{has_more}
-use Rattle.hold_stage.proofs.Bounds.{asked_may, waiting_step}
-use Rattle.hold_stage.proofs.Mutations.{mutations_append}
+use Rattle.hold_stage.proofs.ViewLemmas.{SameStripe, SameQueue, frame_step, step_stripe, step_queue, written_touches, touches_keyed, not_same, or_left, or_true_right}
+use Rattle.hold_stage.proofs.LaterLemmas.{world_step, persisted_apply}
+use Rattle.hold_stage.proofs.LegalLemmas.{has_more}
+use Rattle.hold_stage.proofs.BoundLemmas.{asked_may, waiting_step}
+use Rattle.hold_stage.proofs.MutationLemmas.{mutations_append}
 
 -- a document of another stripe isn't this key's
 puts_apart : (config : Config) (stripe : ℕ) (w : World) (call : CallData) (now : ℕ) (key : List ℕ) (effect : Effect) → stripe_of key config.stripes ≡ stripe → touches_call config call (Stripe stripe) ≡ false → IsDone w call now effect → puts_on key (put_by effect) ≡ false

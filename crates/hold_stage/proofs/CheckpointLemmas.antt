@@ -20,9 +20,9 @@ use Rattle.ep_model.specs.Front.{begun, world_of, with_event, with_events}
 use Rattle.ep_model.specs.Legal.{May, AreLegal, IsLegal}
 use Rattle.ep_model.specs.Checkpoints.{Checkpoint, Checkpoints, first_checkpoints, then_opened, closed_at, has_item, but_item, queued, queued_if, cut_after, cut_in, cut, all_items, items_above}
 use Rattle.hold_stage.specs.Histories.{last_of, OpenIsUnstored, KeptAreLast}
-use Rattle.hold_stage.proofs.Mutations.{IsNextPut, mutation_is_next, IsPut, step_is_put, step_rises}
-use Rattle.hold_stage.proofs.Later.{world_step, more_events, all_append}
-use Rattle.hold_stage.proofs.Bounds.{Bounds, bounds_step, legal_bounds}
+use Rattle.hold_stage.proofs.MutationLemmas.{IsNextPut, mutation_is_next, IsPut, step_is_put, step_rises}
+use Rattle.hold_stage.proofs.LaterLemmas.{world_step, more_events, all_append}
+use Rattle.hold_stage.proofs.BoundLemmas.{Bounds, bounds_step, legal_bounds}
 use Rattle.hold_stage.proofs.HistoryLemmas.{or_none, or_assoc, last_append}
 
 -- all items, the oldest first

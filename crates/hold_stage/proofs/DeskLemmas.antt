@@ -10,7 +10,7 @@ use Rattle.ep_model.specs.History.{step, after}
 use Rattle.ep_model.specs.Front.{world_of, with_event, with_events, with_start}
 use Rattle.hold_stage.specs.Touches.{is_desks}
 use Rattle.hold_stage.specs.Grows.{IsNone, Quiet, Grown}
-use Rattle.hold_stage.proofs.Later.{world_after, persisted_apply}
+use Rattle.hold_stage.proofs.LaterLemmas.{world_after, persisted_apply}
 use Rattle.hold_stage.proofs.GrowsLemmas.{front_same}
 
 -- an event that isn't the desk's leaves what is stored

@@ -13,7 +13,7 @@ use Rattle.hold_stage.specs.Touches.{is_of}
 use Rattle.hold_stage.specs.Grows.{Among, IsNone, Quiet, Grown, Keeps}
 use Rattle.hold_stage.specs.Went.{KeepsUntouched, own_events}
 use Rattle.hold_stage.specs.Laws.{GrownSame, GrownThen, GrownFewer, GrownOwn}
-use Rattle.hold_stage.proofs.Later.{more_events}
+use Rattle.hold_stage.proofs.LaterLemmas.{more_events}
 
 -- two fronts are the same where all of them is
 pub front_same : (f g : FrontData) → g.config ≡ f.config → g.id ≡ f.id → g.start ≡ f.start → g.events ≡ f.events → g ≡ f

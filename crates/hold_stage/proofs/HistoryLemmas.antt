@@ -24,11 +24,11 @@ use Rattle.ep_model.specs.Legal.{IsBelow, IsNoFault, May, AreLegal, IsLegal}
 use Rattle.ep_model.proofs.HistoryLemmas.{legal-front}
 use Rattle.hold_stage.specs.Touches.{is_desks}
 use Rattle.hold_stage.specs.Histories.{puts_of, world_at, IsReached, TicketsDiffer, IsBounded, LegalIsBounded, HasRisen, NumbersRise, AreNumbered, MutationsAreNumbered, UptoStays, DocsStay, NoDocsStay, last_of, IsBatchAbove, BatchLaw, HasNumbersWithin, NumbersStayWithin, LeavesDesk, OthersLeaveDesk}
-use Rattle.hold_stage.proofs.Mutations.{IsNextPut, mutation_is_next, IsPut, step_is_put, step_rises, after_rises, upto_append}
-use Rattle.hold_stage.proofs.Later.{world_step, world_after, more_events, mark_append, persisted_later}
-use Rattle.hold_stage.proofs.Legality.{all_last, asked_below, not_below}
-use Rattle.hold_stage.proofs.Bounds.{legal_bounds, marked_step}
-use Rattle.hold_stage.proofs.Stored.{above_all, laid_above, doc_upto, none_upto}
+use Rattle.hold_stage.proofs.MutationLemmas.{IsNextPut, mutation_is_next, IsPut, step_is_put, step_rises, after_rises, upto_append}
+use Rattle.hold_stage.proofs.LaterLemmas.{world_step, world_after, more_events, mark_append, persisted_later}
+use Rattle.hold_stage.proofs.LegalLemmas.{all_last, asked_below, not_below}
+use Rattle.hold_stage.proofs.BoundLemmas.{legal_bounds, marked_step}
+use Rattle.hold_stage.proofs.StoredLemmas.{above_all, laid_above, doc_upto, none_upto}
 
 -- tickets
 asked_at : (f : FrontData) (ticket : Ticket) (b c : ℕ) (x y : CallData) (before other later rest : List EventData)

@@ -12,8 +12,8 @@ use Rattle.ep_model.specs.declared.data.EventData.TheVariants.{Called, Refused, 
 use Rattle.ep_model.specs.declared.data.FrontData.{FrontData}
 use Rattle.hold_stage.specs.Touches.{is_stripe, is_queue, is_desk, same_part, touches, is_of, is_call, is_desks}
 use Rattle.hold_stage.specs.Grows.{Same, Among, and_this, but_this, Covered, IsOwn}
-use Rattle.hold_stage.proofs.Callers.{same_is}
-use Rattle.hold_stage.proofs.Views.{or_true_right}
+use Rattle.hold_stage.proofs.CallerLemmas.{same_is}
+use Rattle.hold_stage.proofs.ViewLemmas.{or_true_right}
 
 -- a caller's own events
 pub own_called : (caller number : ℕ) (desk : Bool) (call : CallData) (now : ℕ) (reply : Reply) (value : List ℕ) → caller ≡ number → IsOwn number desk (Called caller call now reply value)

@@ -30,8 +30,8 @@ use Rattle.ep_model.specs.Quota.{is_other, others_in, pinned_sum, pinned, blocks
 use Rattle.ep_model.proofs.EffectLemmas.{IsDone, answer_done}
 use Rattle.hold_stage.specs.Touches.{holds_key, is_queue, touches_call, touches}
 use Rattle.hold_stage.specs.Grows.{Quiet}
-use Rattle.hold_stage.proofs.Views.{SameStripe, SameQueue, SameFrame, frame_after, no_mutation, written_touches}
-use Rattle.hold_stage.proofs.Later.{quiet_queue, same_frame, quiet_mark}
+use Rattle.hold_stage.proofs.ViewLemmas.{SameStripe, SameQueue, SameFrame, frame_after, no_mutation, written_touches}
+use Rattle.hold_stage.proofs.LaterLemmas.{quiet_queue, same_frame, quiet_mark}
 
 -- a restriction of documents by a test of their keys
 restricted : (docs : Docs) (test : List ℕ → Bool) (q : List ℕ) → get (finmap.retain_keys docs test) q ≡ cond (test q) (get docs q) None

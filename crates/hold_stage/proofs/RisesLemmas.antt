@@ -10,9 +10,9 @@ use Rattle.ep_model.specs.History.{step}
 use Rattle.ep_model.specs.Front.{started, world_of, with_event, with_events, mark_after, marked}
 use Rattle.ep_model.specs.Legal.{May, AreLegal, IsLegal}
 use Rattle.ep_model.proofs.HistoryLemmas.{legal-front}
-use Rattle.hold_stage.proofs.Later.{world_step, more_events, opened_later, persisted_apply}
-use Rattle.hold_stage.proofs.Bounds.{legal_bounds, marked_step}
-use Rattle.hold_stage.proofs.Mutations.{step_rises}
+use Rattle.hold_stage.proofs.LaterLemmas.{world_step, more_events, opened_later, persisted_apply}
+use Rattle.hold_stage.proofs.BoundLemmas.{legal_bounds, marked_step}
+use Rattle.hold_stage.proofs.MutationLemmas.{step_rises}
 use Rattle.hold_stage.proofs.GrowsLemmas.{nothing_more}
 use Rattle.hold_stage.specs.Histories.{UnopenedIsStart}
 

@@ -16,14 +16,14 @@ use Rattle.ep_model.specs.History.{step}
 use Rattle.ep_model.specs.Calls.{key_of}
 use Rattle.ep_model.specs.Front.{begun, world_of, with_event, with_events, marked}
 use Rattle.ep_model.specs.Legal.{HasAsked, IsAway, May, AreLegal, IsLegal}
-use Rattle.ep_model.proofs.ReadBack.{get-put_other}
+use Rattle.ep_model.proofs.ReadBackLemmas.{get-put_other}
 use Rattle.ep_model.specs.Mutations.{mutation_of}
 use Rattle.hold_stage.specs.Waits.{is_on, puts_on, is_ask, waits_after, waits_in, is_waiting}
-use Rattle.hold_stage.proofs.Views.{frame_after}
-use Rattle.hold_stage.proofs.Later.{same_told, world_step, more_events}
-use Rattle.hold_stage.proofs.Legality.{has_more}
-use Rattle.hold_stage.proofs.Bounds.{marked_step}
-use Rattle.hold_stage.proofs.Mutations.{IsPut, step_is_put}
+use Rattle.hold_stage.proofs.ViewLemmas.{frame_after}
+use Rattle.hold_stage.proofs.LaterLemmas.{same_told, world_step, more_events}
+use Rattle.hold_stage.proofs.LegalLemmas.{has_more}
+use Rattle.hold_stage.proofs.BoundLemmas.{marked_step}
+use Rattle.hold_stage.proofs.MutationLemmas.{IsPut, step_is_put}
 use Rattle.hold_stage.proofs.RisesLemmas.{marked_rises}
 
 -- an event that doesn't put a key's document leaves it

@@ -14,7 +14,7 @@ use Rattle.ep_model.specs.Legal.{May}
 use Rattle.ep_model.specs.Stripes.{stripe_of}
 use Rattle.hold_stage.specs.Touches.{touches, is_stripe}
 use Rattle.hold_stage.specs.Grows.{Same, and_this, Covered, Noted}
-use Rattle.hold_stage.proofs.Later.{world_step}
+use Rattle.hold_stage.proofs.LaterLemmas.{world_step}
 use Rattle.hold_stage.proofs.OwnLemmas.{holds_stripe, taken_held}
 use Rattle.turn_stage.specs.Closed.{IsClosed}
 use Rattle.hold_stage.specs.Slots.{bare_front}

@@ -8,8 +8,8 @@ use Rattle.ep_model.specs.declared.data.FrontData.{FrontData}
 use Rattle.ep_model.specs.World.{World}
 use Rattle.ep_model.specs.Front.{world_of, with_event}
 use Rattle.hold_stage.specs.Touches.{touches}
-use Rattle.hold_stage.proofs.Later.{world_step}
-use Rattle.hold_stage.proofs.Views.{step_stripe}
+use Rattle.hold_stage.proofs.LaterLemmas.{world_step}
+use Rattle.hold_stage.proofs.ViewLemmas.{step_stripe}
 
 -- the vBucket hasn't opened, as far as its stripes know
 abbrev pub IsClosed : PartName → FrontData → Type 0

@@ -15,11 +15,11 @@ use Rattle.ep_model.specs.Calls.{key_of}
 use Rattle.ep_model.specs.Front.{with_event}
 use Rattle.ep_model.specs.Legal.{IsUnused, IsBelow, May, AreLegal, IsLegal}
 use Rattle.hold_stage.specs.Waits.{is_on, is_ask, IsNoRead}
-use Rattle.hold_stage.proofs.Callers.{same_is}
-use Rattle.hold_stage.proofs.Views.{or_true_left}
-use Rattle.hold_stage.proofs.Later.{all_append}
-use Rattle.hold_stage.proofs.Legality.{all_front}
-use Rattle.hold_stage.proofs.Bounds.{not_asked, fresh_unused, waiting_step}
+use Rattle.hold_stage.proofs.CallerLemmas.{same_is}
+use Rattle.hold_stage.proofs.ViewLemmas.{or_true_left}
+use Rattle.hold_stage.proofs.LaterLemmas.{all_append}
+use Rattle.hold_stage.proofs.LegalLemmas.{all_front}
+use Rattle.hold_stage.proofs.BoundLemmas.{not_asked, fresh_unused, waiting_step}
 use Rattle.fetch_book.specs.declared.place.Outcome.{Outcome}
 use Rattle.fetch_book.specs.declared.place.Place.{Place}
 use Rattle.fetch_book.specs.Places.{is_place_of, is_not_of, place_at, released}

@@ -18,8 +18,8 @@ use Rattle.ep_model.specs.Mutations.{put_by, mutation_of}
 use Rattle.ep_model.specs.Legal.{IsUnused}
 use Rattle.ep_model.specs.Checkpoints.{Checkpoints, queued_if, cut, all_items}
 use Rattle.hold_stage.specs.Waits.{puts_on, IsNoRead}
-use Rattle.hold_stage.proofs.Later.{same_told, world_step, all_append}
-use Rattle.hold_stage.proofs.Bounds.{marked_step}
+use Rattle.hold_stage.proofs.LaterLemmas.{same_told, world_step, all_append}
+use Rattle.hold_stage.proofs.BoundLemmas.{marked_step}
 use Rattle.hash_stripe.specs.Stripes.{StripeData}
 use Rattle.fetch_book.specs.declared.place.Outcome.{Outcome}
 use Rattle.fetch_book.specs.declared.place.Outcome.TheVariants as outcomes

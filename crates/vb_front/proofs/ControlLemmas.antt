@@ -17,7 +17,7 @@ use Rattle.ep_model.specs.Calls.{has_key}
 use Rattle.ep_model.specs.Front.{begun, world_of}
 use Rattle.ep_model.specs.Legal.{May}
 use Rattle.ep_model.proofs.EffectLemmas.{call_done, done_nothing}
-use Rattle.hold_stage.proofs.Views.{frame_after}
+use Rattle.hold_stage.proofs.ViewLemmas.{frame_after}
 use Rattle.ckpt_manager.specs.declared.data.QueueData.{QueueData}
 use Rattle.vb_front.specs.declared.step.Step.TheVariants as steps
 use Rattle.vb_front.specs.Stands.{QueueStands}

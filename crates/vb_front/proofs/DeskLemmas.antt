@@ -9,13 +9,13 @@ use Rattle.ep_model.specs.Front.{begun, world_of, with_event}
 use Rattle.ep_model.specs.Legal.{IsSilent, IsLegal}
 use Rattle.hold_stage.specs.Histories.{IsReached, world_at}
 use Rattle.hold_stage.specs.Touches.{is_of, is_desks}
-use Rattle.hold_stage.proofs.Later.{same_told, world_step, all_append}
-use Rattle.hold_stage.proofs.Legality.{has_more}
-use Rattle.hold_stage.proofs.Mutations.{upto_append}
-use Rattle.hold_stage.proofs.Bounds.{legal_bounds}
+use Rattle.hold_stage.proofs.LaterLemmas.{same_told, world_step, all_append}
+use Rattle.hold_stage.proofs.LegalLemmas.{has_more}
+use Rattle.hold_stage.proofs.MutationLemmas.{upto_append}
+use Rattle.hold_stage.proofs.BoundLemmas.{legal_bounds}
 use Rattle.hold_stage.proofs.RisesLemmas.{high_rises, opened_stays}
 use Rattle.hold_stage.proofs.HistoryLemmas.{others_leave_desk}
-use Rattle.hold_stage.proofs.Views.{not_same}
+use Rattle.hold_stage.proofs.ViewLemmas.{not_same}
 use Rattle.kv_keeper.specs.declared.data.BatchData.{BatchData}
 use Rattle.kv_keeper.specs.declared.data.DeskData.{DeskData}
 use Rattle.kv_keeper.specs.Batch.{laid}

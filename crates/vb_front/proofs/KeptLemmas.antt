@@ -13,7 +13,7 @@ use Rattle.ep_model.specs.Mutations.{put_by, above}
 use Rattle.ep_model.specs.Quota.{stripe_is_full, is_overfull}
 use Rattle.ep_model.specs.Front.{world_of}
 use Rattle.ep_model.specs.Checkpoints.{Checkpoints, then_opened, has_item, but_item, queued, cut, all_items, items_above, item_blocks}
-use Rattle.hold_stage.proofs.Views.{or_true_right}
+use Rattle.hold_stage.proofs.ViewLemmas.{or_true_right}
 use Rattle.ckpt_items.specs.declared.data.ItemData.{ItemData}
 use Rattle.ckpt_items.specs.Items.{blocks_of, item_blocks as blocks_in}
 use Rattle.ckpt_manager.specs.declared.data.QueueData.{QueueData}

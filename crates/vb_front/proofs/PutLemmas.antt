@@ -18,9 +18,9 @@ use Rattle.ep_model.specs.Stripes.{stripe_of}
 use Rattle.ep_model.specs.Mutations.{mutation_of}
 use Rattle.ep_model.specs.Front.{world_of, with_event, marked}
 use Rattle.ep_model.specs.Legal.{IsUnused, IsBelow}
-use Rattle.ep_model.proofs.ReadBack.{get-put, get-put_other}
+use Rattle.ep_model.proofs.ReadBackLemmas.{get-put, get-put_other}
 use Rattle.hold_stage.specs.Waits.{puts_on, IsNoRead}
-use Rattle.hold_stage.proofs.Later.{same_told, all_append}
+use Rattle.hold_stage.proofs.LaterLemmas.{same_told, all_append}
 use Rattle.hash_stripe.specs.Nodes.{NodeData, Slot, node_at, is_clean, is_full_eviction, is_ejectable_slot, eject_slot, IsLeft}
 use Rattle.hash_stripe.specs.Stripes.{StripeData}
 use Rattle.fetch_book.specs.declared.place.Outcome.{Outcome}

@@ -23,8 +23,8 @@ use Rattle.ep_model.specs.Front.{world_of, with_event}
 use Rattle.ep_model.specs.Legal.{May}
 use Rattle.ep_model.specs.Checkpoints.{Checkpoints, then_opened, closed_at, has_item, but_item, queued, queued_if, cut_after, cut, all_items}
 use Rattle.ep_model.proofs.EffectLemmas.{call_told}
-use Rattle.hold_stage.proofs.Later.{world_step}
-use Rattle.hold_stage.proofs.Mutations.{IsNextPut, mutation_is_next}
+use Rattle.hold_stage.proofs.LaterLemmas.{world_step}
+use Rattle.hold_stage.proofs.MutationLemmas.{IsNextPut, mutation_is_next}
 use Rattle.ckpt_items.specs.declared.data.ItemData.{ItemData}
 use Rattle.ckpt_items.specs.Items.{is_of}
 use Rattle.ckpt_manager.specs.declared.data.QueueData.{QueueData}

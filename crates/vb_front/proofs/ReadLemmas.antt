@@ -25,7 +25,7 @@ use Rattle.ep_model.specs.Front.{begun, world_of, marked}
 use Rattle.ep_model.specs.Quota.{pinned, standing_blocks, old_blocks, need, exceeds, is_overfull, is_short}
 use Rattle.ep_model.specs.Legal.{IsServing, IsLegal}
 use Rattle.ep_model.proofs.EffectLemmas.{get_done}
-use Rattle.hold_stage.proofs.Views.{frame_after}
+use Rattle.hold_stage.proofs.ViewLemmas.{frame_after}
 use Rattle.hash_stripe.specs.Stripes.{AreApart, IsStripe}
 use Rattle.fetch_book.specs.declared.place.Outcome.{Outcome}
 use Rattle.fetch_book.specs.declared.place.Outcome.TheVariants as outcomes

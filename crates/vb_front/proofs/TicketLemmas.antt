@@ -15,7 +15,7 @@ use Rattle.ep_model.specs.Mutations.{mutation_of}
 use Rattle.ep_model.specs.Front.{begun}
 use Rattle.ep_model.specs.Legal.{IsLegal}
 use Rattle.hold_stage.specs.Waits.{is_on, puts_on, is_ask, waits_in, is_waiting}
-use Rattle.hold_stage.proofs.Legality.{one_asker}
+use Rattle.hold_stage.proofs.LegalLemmas.{one_asker}
 use Rattle.vb_front.proofs.AskLemmas.{and_left, and_right}
 
 -- the key was asked for at the ticket

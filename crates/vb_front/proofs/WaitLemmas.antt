@@ -22,8 +22,8 @@ use Rattle.ep_model.specs.History.{call_effect}
 use Rattle.ep_model.specs.Front.{world_of, with_event, marked}
 use Rattle.ep_model.specs.Legal.{IsUnused, IsBelow, WaitsAt, HasFailedRead, Caused, MayCall, IsAway, MayAsk, May, IsLegal}
 use Rattle.hold_stage.specs.Waits.{IsNoRead}
-use Rattle.hold_stage.proofs.Later.{all_append}
-use Rattle.hold_stage.proofs.Bounds.{not_asked}
+use Rattle.hold_stage.proofs.LaterLemmas.{all_append}
+use Rattle.hold_stage.proofs.BoundLemmas.{not_asked}
 use Rattle.hash_stripe.specs.Nodes.{NodeData, Slot, node_at}
 use Rattle.hash_stripe.specs.Stripes.{StripeData}
 use Rattle.fetch_book.specs.declared.place.Outcome.{Outcome}

@@ -22,10 +22,10 @@ use Rattle.ep_model.specs.Checkpoints.{Checkpoints, first_checkpoints, queued_if
 use Rattle.hold_stage.specs.Touches.{touches_call, touches}
 use Rattle.hold_stage.specs.Waits.{puts_on, is_ask, is_waiting, IsNoRead}
 use Rattle.ep_model.proofs.EffectLemmas.{IsDone, call_done}
-use Rattle.hold_stage.proofs.Views.{SameStripe, SameQueue, step_stripe, step_queue, no_mutation, written_touches, touches_keyed, not_same, or_left, or_true_right}
-use Rattle.hold_stage.proofs.Later.{world_step, persisted_apply}
-use Rattle.hold_stage.proofs.Legality.{has_more}
-use Rattle.hold_stage.proofs.Bounds.{asked_may, waiting_step}
+use Rattle.hold_stage.proofs.ViewLemmas.{SameStripe, SameQueue, step_stripe, step_queue, no_mutation, written_touches, touches_keyed, not_same, or_left, or_true_right}
+use Rattle.hold_stage.proofs.LaterLemmas.{world_step, persisted_apply}
+use Rattle.hold_stage.proofs.LegalLemmas.{has_more}
+use Rattle.hold_stage.proofs.BoundLemmas.{asked_may, waiting_step}
 use Rattle.hold_stage.proofs.QuotaLemmas.{cut_append}
 
 -- a key of this stripe isn't one of a stripe that isn't touched

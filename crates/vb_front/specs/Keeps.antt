@@ -14,9 +14,9 @@ use Rattle.ep_model.specs.Legal.{IsUnused, IsBelow, May, IsLegal}
 use Rattle.ep_model.specs.Checkpoints.{Checkpoints, cut, all_items}
 use Rattle.hold_stage.specs.Waits.{IsNoRead}
 use Rattle.hold_stage.specs.Touches.{touches}
-use Rattle.hold_stage.proofs.Views.{SameStripe, frame_step, step_mark, step_below}
-use Rattle.hold_stage.proofs.Later.{same_told, world_step, all_append}
-use Rattle.hold_stage.proofs.Bounds.{marked_step}
+use Rattle.hold_stage.proofs.ViewLemmas.{SameStripe, frame_step, step_mark, step_below}
+use Rattle.hold_stage.proofs.LaterLemmas.{same_told, world_step, all_append}
+use Rattle.hold_stage.proofs.BoundLemmas.{marked_step}
 use Rattle.hash_stripe.specs.Nodes.{NodeData, node_at}
 use Rattle.hash_stripe.specs.Stripes.{StripeData}
 use Rattle.fetch_book.specs.declared.place.Outcome.{Outcome}

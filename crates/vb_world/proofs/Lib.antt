@@ -1,8 +1,8 @@
-pub mod Kept
-pub mod Histories
-pub mod Lists
-pub mod Buckets
-pub mod Places
-pub mod Sounds
-pub mod Turns
-pub mod Stages
+pub mod KeptLemmas
+pub mod HistoryLemmas
+pub mod ListLemmas
+pub mod BucketLemmas
+pub mod PlaceLemmas
+pub mod SoundLemmas
+pub mod TurnLemmas
+pub mod StageLemmas

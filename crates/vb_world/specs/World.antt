@@ -78,8 +78,8 @@ bucket_of parts = record { start = None; places = map Home parts }
 abbrev pub with_bucket : {P : Type 0} → WorldData P → List P → WorldData P
 with_bucket world parts = record world { buckets = world.buckets ++ bucket_of parts ∷ [] }
 
-abbrev pub empty_world : {P : Type 0} → Config → WorldData P
-empty_world config = record { config = config; history = []; buckets = []; losses = 0; event_room = 0; byte_room = 0 }
+abbrev pub no_buckets : {P : Type 0} → Config → WorldData P
+no_buckets config = record { config = config; history = []; buckets = []; losses = 0; event_room = 0; byte_room = 0 }
 
 -- What is true of every world.
 pub record Sound {P : Type 0} (stands : PartName → FrontData → P → Type 0) (world : WorldData P) : Type 0 where

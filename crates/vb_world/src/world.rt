@@ -6,7 +6,7 @@ ghost use Rattle.ep_model.specs.History.{event_data};
 ghost use Rattle.ep_model.specs.Legal.{May};
 ghost use Rattle.hold_stage.specs.Touches.{there, touches, bytes_of};
 ghost use Rattle.vb_world.specs.declared.place.Place.TheVariants.{Home as AtHome, Out as OutWith};
-ghost use Rattle.vb_world.specs.World.{front_in, part_in, with_place, with_origin, with_loss, with_bucket, empty_world, StandBare, Sound};
+ghost use Rattle.vb_world.specs.World.{front_in, part_in, with_place, with_origin, with_loss, with_bucket, no_buckets, StandBare, Sound};
 
 use crate::event_log;
 use crate::event_log::EventLog;
@@ -46,7 +46,7 @@ impl<P: Stands + Drop> World<P> {
     /// says, and fails only for want of memory.
     pub fn new(alloc: Global, config: &Config) -> Result<World<P>, NoMemory>
         requires { config_fault config.now ≡ None }
-        ensures new { IfOk result (λ w. w ≡ empty_world config.now) }
+        ensures new { IfOk result (λ w. w ≡ no_buckets config.now) }
         ensures sound { IfOk result (λ w. Sound P.stands w) }
     {
         let buckets = Vec::with_capacity(alloc, usize::from(config.vbuckets))?;

@@ -16,7 +16,7 @@ use Rattle.ep_drill.specs.Core.{bench_data, BenchStands, LacksRoom, Worked}
 use Rattle.ep_drill.specs.Works.{WasMerged}
 use Rattle.ep_drill.proofs.WorldLemmas.{room_rests}
 use Rattle.ep_drill.proofs.BenchedLemmas.{no_read_at_stripe, put_again, is_there, was_merged}
-use Rattle.ep_drill.proofs.Lists.{set_same}
+use Rattle.ep_drill.proofs.ListLemmas.{set_same}
 use Rattle.std.proofs.lemmas.List.{map-set}
 use Rattle.ep_drill.proofs.MergedLemmas.{read_at_stripe, merged_at, merge_ready, merge_left}
 use Rattle.ep_drill.proofs.stored.merge_at.Goals as goal

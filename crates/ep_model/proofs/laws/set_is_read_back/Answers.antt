@@ -1,4 +1,4 @@
-use Rattle.ep_model.proofs.ReadBack.{set-read-back, set-keeps-others}
+use Rattle.ep_model.proofs.ReadBackLemmas.{set-read-back, set-keeps-others}
 use Rattle.ep_model.proofs.laws.set_is_read_back.Goals as goal
 
 pub returns-clause-read : goal.returns-clause-read

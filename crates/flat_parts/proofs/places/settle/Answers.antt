@@ -1,7 +1,7 @@
 use Rattle.std.proofs.Common.{arith}
 use Rattle.flat_parts.specs.Nodes.{settle_place}
 use Rattle.flat_parts.specs.Flat.{place_data, places_data}
-use Rattle.flat_parts.proofs.Lists.{swept-more}
+use Rattle.flat_parts.proofs.ListLemmas.{swept-more}
 use Rattle.flat_parts.proofs.PlaceLemmas.{settle-all}
 use Rattle.flat_parts.proofs.places.settle.Goals as goal
 

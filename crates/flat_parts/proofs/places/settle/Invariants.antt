@@ -1,7 +1,7 @@
 use Rattle.std.proofs.Common.{◌≡◌, vec_len}
 use Rattle.flat_parts.specs.Nodes.{settle_place}
 use Rattle.flat_parts.specs.Flat.{places_data}
-use Rattle.flat_parts.proofs.Lists.{swept}
+use Rattle.flat_parts.proofs.ListLemmas.{swept}
 use Rattle.flat_parts.proofs.places.settle.Given as goal
 
 abbrev pub invariant-loop-index : goal.invariant-loop-index

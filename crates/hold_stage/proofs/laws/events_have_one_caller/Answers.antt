@@ -1,4 +1,4 @@
-use Rattle.hold_stage.proofs.Callers.{of_one, of_call}
+use Rattle.hold_stage.proofs.CallerLemmas.{of_one, of_call}
 use Rattle.hold_stage.proofs.laws.events_have_one_caller.Goals as goal
 
 pub returns-clause-one : goal.returns-clause-one

@@ -1,5 +1,5 @@
-use Rattle.hold_stage.proofs.Callers.{touches_later, touches_some}
-use Rattle.hold_stage.proofs.Legality.{legal_later}
+use Rattle.hold_stage.proofs.CallerLemmas.{touches_later, touches_some}
+use Rattle.hold_stage.proofs.LegalLemmas.{legal_later}
 use Rattle.hold_stage.proofs.laws.untouched_events_stay_legal.Goals as goal
 
 pub returns-clause-touches : goal.returns-clause-touches

@@ -1,4 +1,4 @@
-use Rattle.turn_stage.proofs.Events.{begins}
+use Rattle.turn_stage.proofs.EventLemmas.{begins}
 use Rattle.turn_stage.proofs.atomic.begin.Goals as goal
 
 pub load-requires : goal.load-requires

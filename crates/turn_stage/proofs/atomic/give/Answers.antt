@@ -1,5 +1,5 @@
 use Rattle.std.proofs.Common.{rules}
-use Rattle.turn_stage.proofs.Calls.{picks_up_at, gives_at}
+use Rattle.turn_stage.proofs.CallLemmas.{picks_up_at, gives_at}
 use Rattle.turn_stage.proofs.atomic.give.Goals as goal
 
 pub load-requires : goal.load-requires

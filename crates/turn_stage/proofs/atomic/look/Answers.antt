@@ -1,4 +1,4 @@
-use Rattle.turn_stage.proofs.Steps.{looks}
+use Rattle.turn_stage.proofs.StepLemmas.{looks}
 use Rattle.turn_stage.proofs.atomic.look.Goals as goal
 
 pub load-requires : goal.load-requires

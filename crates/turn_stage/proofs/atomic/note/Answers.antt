@@ -1,5 +1,5 @@
 use Rattle.std.proofs.Common.{rules}
-use Rattle.turn_stage.proofs.Events.{notes}
+use Rattle.turn_stage.proofs.EventLemmas.{notes}
 use Rattle.turn_stage.proofs.atomic.note.Goals as goal
 
 pub fetch_add-requires : goal.fetch_add-requires

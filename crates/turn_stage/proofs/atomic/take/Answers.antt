@@ -1,5 +1,5 @@
 use Rattle.std.proofs.Common.{rules, ◌∙◌}
-use Rattle.turn_stage.proofs.Calls.{tries_at, won_at, won_slot, puts_down_at}
+use Rattle.turn_stage.proofs.CallLemmas.{tries_at, won_at, won_slot, puts_down_at}
 use Rattle.turn_stage.proofs.atomic.take.Goals as goal
 
 pub compare_exchange-requires : goal.compare_exchange-requires

@@ -2,8 +2,8 @@ use Rattle.std.proofs.Common.{rules, ◌+◌, List, map, take, Option, Some, Non
 use mathlib.Core.Option.{some}
 use Rattle.std.specs.Slots.{slots_items, slots_filled, slots_len}
 use Rattle.turn_stage.specs.Filled.{AreFilled}
-use Rattle.turn_stage.proofs.Seats.{at_within}
-use Rattle.turn_stage.proofs.Slotted.{one_more, never_empty, emptied, still_full}
+use Rattle.turn_stage.proofs.SeatLemmas.{at_within}
+use Rattle.turn_stage.proofs.SlottedLemmas.{one_more, never_empty, emptied, still_full}
 use Rattle.turn_stage.proofs.slots.taken_out.Goals as goal
 
 pub unreachable-requires : goal.unreachable-requires

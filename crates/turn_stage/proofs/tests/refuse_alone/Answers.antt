@@ -1,7 +1,7 @@
 use Rattle.std.proofs.Common.{ap, ◌∙◌}
 use Rattle.vb_world.specs.declared.data.WorldData.{WorldData}
 use Rattle.vb_world.specs.World.{has_out}
-use Rattle.vb_world.proofs.Places.{out_pushed, out_nowhere}
+use Rattle.vb_world.proofs.PlaceLemmas.{out_pushed, out_nowhere}
 use Rattle.turn_stage.specs.declared.tests.Tally.{Tally}
 use Rattle.turn_stage.proofs.tests.refuse_alone.Goals as goal
 

@@ -1,7 +1,7 @@
 -- Bytes put behind those that are kept leave each event as it was.
 use Rattle.std.proofs.Common.{◌∙◌, ap}
 use Rattle.vb_world.specs.EventLog.{pairs_in}
-use Rattle.vb_world.proofs.Kept.{kept_inside, kept_pairs, are_inside-push, err_here, push_kept}
+use Rattle.vb_world.proofs.KeptLemmas.{kept_inside, kept_pairs, are_inside-push, err_here, push_kept}
 use Rattle.vb_world.proofs.event_log.note.Goals as goal
 
 pub returns-in_err-kept-clause-err : goal.returns-in_err-kept-clause-err

@@ -1,4 +1,4 @@
-use Rattle.vb_world.proofs.Buckets.{put_in}
+use Rattle.vb_world.proofs.BucketLemmas.{put_in}
 use Rattle.vb_world.proofs.place.put_at.Goals as goal
 
 pub returns : goal.returns

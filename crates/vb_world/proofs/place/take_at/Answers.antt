@@ -1,7 +1,7 @@
 use Rattle.std.proofs.Common.{refl}
 use Rattle.std.proofs.lemmas.Option.{slice_get_read}
 use Rattle.vb_world.specs.declared.place.Place.TheVariants.{Out as OutWith}
-use Rattle.vb_world.proofs.Buckets.{taken_at, left_at}
+use Rattle.vb_world.proofs.BucketLemmas.{taken_at, left_at}
 use Rattle.vb_world.proofs.place.take_at.Goals as goal
 
 pub returns-clause-out : goal.returns-clause-out

@@ -2,7 +2,7 @@ use Rattle.std.proofs.Common.{ap, ◌∙◌}
 use Rattle.vb_world.specs.declared.data.WorldData.{WorldData}
 use Rattle.vb_world.specs.declared.world_tests.Token.{Token}
 use Rattle.vb_world.specs.World.{has_out}
-use Rattle.vb_world.proofs.Places.{out_pushed, out_nowhere}
+use Rattle.vb_world.proofs.PlaceLemmas.{out_pushed, out_nowhere}
 use Rattle.vb_world.proofs.world_tests.two_vbuckets.Goals as goal
 
 pub returns-clause-home : goal.returns-clause-home

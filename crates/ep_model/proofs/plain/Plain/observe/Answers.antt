@@ -1,5 +1,5 @@
 use Rattle.std.proofs.Common.{◌++◌, ◌∙◌, sym, ap}
-use Rattle.ep_model.proofs.PlainAnswers.{observe-value, five-pushes}
+use Rattle.ep_model.proofs.PlainAnswerLemmas.{observe-value, five-pushes}
 use Rattle.ep_model.proofs.plain.Plain.observe.Goals as goal
 
 pub returns-clause-value : goal.returns-clause-value

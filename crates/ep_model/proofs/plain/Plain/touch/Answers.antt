@@ -1,6 +1,6 @@
 use Rattle.std.proofs.Common.{◌∙◌, sym}
 use Rattle.ep_model.specs.Plain.{document_data}
-use Rattle.ep_model.proofs.Touches.{touch-fetched}
+use Rattle.ep_model.proofs.TouchLemmas.{touch-fetched}
 use Rattle.ep_model.proofs.plain.Plain.touch.Goals as goal
 
 pub returns-then-fetch : goal.returns-then-fetch

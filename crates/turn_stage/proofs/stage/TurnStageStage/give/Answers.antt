@@ -2,7 +2,7 @@ use Rattle.std.proofs.Common.{ap, ◌∙◌}
 use Rattle.turn_stage.specs.declared.data.View.{View}
 use Rattle.turn_stage.specs.Slots.{has}
 use Rattle.turn_stage.specs.Passes.{view_of}
-use Rattle.turn_stage.proofs.Parts.{has_without}
+use Rattle.turn_stage.proofs.PartLemmas.{has_without}
 use Rattle.turn_stage.proofs.stage.TurnStageStage.give.Goals as goal
 
 pub returns-clause-held : goal.returns-clause-held

@@ -1,6 +1,6 @@
 use Rattle.std.specs.Slots.{slots_items}
-use Rattle.turn_stage.proofs.Rests.{rests}
-use Rattle.turn_stage.proofs.Opens.{closes, filled, parted}
+use Rattle.turn_stage.proofs.RestLemmas.{rests}
+use Rattle.turn_stage.proofs.OpenLemmas.{closes, filled, parted}
 use Rattle.turn_stage.proofs.table.Turns.close.Goals as goal
 
 pub taken_out-requires-clause-filled : goal.taken_out-requires-clause-filled

@@ -4,7 +4,7 @@ use Rattle.turn_stage.specs.declared.data.View.{View}
 use Rattle.hold_stage.specs.Slots.{slot_of}
 use Rattle.turn_stage.specs.Seats.{all_there}
 use Rattle.hold_stage.proofs.SlotLemmas.{slot_within}
-use Rattle.turn_stage.proofs.Rests.{resting, held_there, there_less}
+use Rattle.turn_stage.proofs.RestLemmas.{resting, held_there, there_less}
 use Rattle.turn_stage.proofs.table.Turns.give.Goals as goal
 
 pub give-requires-clause-there : goal.give-requires-clause-there

@@ -1,8 +1,8 @@
 use Rattle.std.proofs.Common.{ap, ◌∙◌, arith, rules}
 use Rattle.atomic_table.specs.Table.{Me}
-use Rattle.turn_stage.proofs.Rests.{rests}
-use Rattle.turn_stage.proofs.Splits.{joins}
-use Rattle.turn_stage.proofs.Steps.{tells}
+use Rattle.turn_stage.proofs.RestLemmas.{rests}
+use Rattle.turn_stage.proofs.SplitLemmas.{joins}
+use Rattle.turn_stage.proofs.StepLemmas.{tells}
 use Rattle.turn_stage.proofs.table.Turns.join.Goals as goal
 
 pub join_seat-requires : goal.join_seat-requires

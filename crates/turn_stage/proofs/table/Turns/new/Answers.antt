@@ -2,7 +2,7 @@ use Rattle.std.proofs.Common.{rules, ◌≡◌, ◌+◌, List, Option, replicate
 use Rattle.atomic_table.specs.Table.{opening}
 use Rattle.turn_stage.specs.Rule.{Turned}
 use Rattle.turn_stage.specs.Parts.{first_view}
-use Rattle.turn_stage.proofs.Opens.{opens}
+use Rattle.turn_stage.proofs.OpenLemmas.{opens}
 use Rattle.turn_stage.proofs.table.Turns.new.Goals as goal
 
 pub new-requires : goal.new-requires

@@ -1,6 +1,6 @@
 use Rattle.std.proofs.Common.{arith, rules}
-use Rattle.turn_stage.proofs.Rests.{rests}
-use Rattle.turn_stage.proofs.Splits.{splits}
+use Rattle.turn_stage.proofs.RestLemmas.{rests}
+use Rattle.turn_stage.proofs.SplitLemmas.{splits}
 use Rattle.turn_stage.proofs.table.Turns.split.Goals as goal
 
 pub split_seat-seat-requires : goal.split_seat-seat-requires

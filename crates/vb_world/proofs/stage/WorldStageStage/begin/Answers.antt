@@ -1,5 +1,5 @@
 use Rattle.std.proofs.Common.{refl}
-use Rattle.vb_world.proofs.Stages.{all_within, all_away, begin_fixed, begin_begun, begin_front, begin_held, begin_tells}
+use Rattle.vb_world.proofs.StageLemmas.{all_within, all_away, begin_fixed, begin_begun, begin_front, begin_held, begin_tells}
 use Rattle.vb_world.proofs.stage.WorldStageStage.begin.Goals as goal
 
 pub begin-requires-clause-vb : goal.begin-requires-clause-vb

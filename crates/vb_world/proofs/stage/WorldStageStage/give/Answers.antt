@@ -1,5 +1,5 @@
 use Rattle.std.proofs.Common.{refl}
-use Rattle.vb_world.proofs.Stages.{give_fixed, give_front, give_held, give_tells}
+use Rattle.vb_world.proofs.StageLemmas.{give_fixed, give_front, give_held, give_tells}
 use Rattle.vb_world.proofs.stage.WorldStageStage.give.Goals as goal
 
 pub returns-clause-stays : goal.returns-clause-stays

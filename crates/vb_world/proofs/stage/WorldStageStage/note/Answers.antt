@@ -1,6 +1,6 @@
 use Rattle.ep_model.specs.History.{event_data}
-use Rattle.vb_world.proofs.Stages.{held_within, note_noted, note_front}
-use Rattle.hold_stage.proofs.Callers.{touches_some}
+use Rattle.vb_world.proofs.StageLemmas.{held_within, note_noted, note_front}
+use Rattle.hold_stage.proofs.CallerLemmas.{touches_some}
 use Rattle.vb_world.proofs.stage.WorldStageStage.note.Goals as goal
 
 pub note-requires-clause-vb : goal.note-requires-clause-vb

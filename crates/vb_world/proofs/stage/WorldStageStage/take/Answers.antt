@@ -1,7 +1,7 @@
 use Rattle.std.proofs.Common.{refl, subst, sym}
 use Rattle.ep_model.specs.declared.data.FrontData.{FrontData}
 use Rattle.vb_world.specs.World.{front_in}
-use Rattle.vb_world.proofs.Stages.{grown_same, take_fixed, take_front, take_tells, take_held, take_taken}
+use Rattle.vb_world.proofs.StageLemmas.{grown_same, take_fixed, take_front, take_tells, take_held, take_taken}
 use Rattle.vb_world.proofs.stage.WorldStageStage.take.Goals as goal
 
 pub returns-clause-stays : goal.returns-clause-stays

@@ -1,6 +1,6 @@
 use Rattle.vb_world.specs.Buckets.{bucket_data, world_data}
-use Rattle.vb_world.proofs.Turns.{added}
-use Rattle.vb_world.proofs.Buckets.{pushed_data}
+use Rattle.vb_world.proofs.TurnLemmas.{added}
+use Rattle.vb_world.proofs.BucketLemmas.{pushed_data}
 use Rattle.vb_world.proofs.world.World.add.Goals as goal
 
 pub invariant_of-self-2 : goal.invariant_of-self-2

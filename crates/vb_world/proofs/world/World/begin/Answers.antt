@@ -1,9 +1,9 @@
 use Rattle.std.proofs.Common.{refl}
 use Rattle.vb_world.specs.declared.data.WorldData.{WorldData}
 use Rattle.vb_world.specs.Buckets.{world_data}
-use Rattle.vb_world.proofs.Buckets.{begun_in}
-use Rattle.vb_world.proofs.Turns.{began, begun_world, is_there}
-use Rattle.hold_stage.proofs.Begun.{legal_begun}
+use Rattle.vb_world.proofs.BucketLemmas.{begun_in}
+use Rattle.vb_world.proofs.TurnLemmas.{began, begun_world, is_there}
+use Rattle.hold_stage.proofs.StartLemmas.{legal_begun}
 use Rattle.vb_world.proofs.world.World.begin.Goals as goal
 
 pub invariant_of-self : goal.invariant_of-self

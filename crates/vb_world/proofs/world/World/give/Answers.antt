@@ -1,5 +1,5 @@
 use Rattle.vb_world.specs.Buckets.{world_data}
-use Rattle.vb_world.proofs.Turns.{gave}
+use Rattle.vb_world.proofs.TurnLemmas.{gave}
 use Rattle.vb_world.proofs.world.World.give.Goals as goal
 
 pub invariant_of-self : goal.invariant_of-self

@@ -1,7 +1,7 @@
 use Rattle.std.proofs.Common.{map, ap}
 use Rattle.vb_world.specs.EventLog.{pairs_in}
 use Rattle.vb_world.specs.Buckets.{bucket_data}
-use Rattle.vb_world.proofs.Turns.{made}
+use Rattle.vb_world.proofs.TurnLemmas.{made}
 use Rattle.vb_world.proofs.world.World.new.Goals as goal
 
 pub invariant_of-result : goal.invariant_of-result

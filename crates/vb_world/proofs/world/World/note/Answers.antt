@@ -4,7 +4,7 @@ use Rattle.hold_stage.specs.Touches.{bytes_of}
 use Rattle.vb_world.specs.declared.data.WorldData.{WorldData}
 use Rattle.vb_world.specs.EventLog.{event_room, byte_room}
 use Rattle.vb_world.specs.Buckets.{world_data}
-use Rattle.vb_world.proofs.Turns.{noted_so}
+use Rattle.vb_world.proofs.TurnLemmas.{noted_so}
 use Rattle.vb_world.proofs.world.World.note.Goals as goal
 
 pub invariant_of-self : goal.invariant_of-self

@@ -1,6 +1,6 @@
 use Rattle.std.proofs.Common.{refl}
 use Rattle.vb_world.specs.Buckets.{world_data}
-use Rattle.vb_world.proofs.Turns.{slot_fits, took, missed}
+use Rattle.vb_world.proofs.TurnLemmas.{slot_fits, took, missed}
 use Rattle.vb_world.proofs.world.World.take.Goals as goal
 
 pub take_at-requires : goal.take_at-requires

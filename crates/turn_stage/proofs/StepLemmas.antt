@@ -22,10 +22,10 @@ use Rattle.turn_stage.specs.Slots.{turn_of, has, without_part}
 use Rattle.turn_stage.specs.Rule.{IsHeld, Fits, Apart, IsHome, Turned}
 use Rattle.turn_stage.specs.Plays.{part_of, Looked, Won, Tried, PutDown, PickedUp, Gave, Told}
 use Rattle.hold_stage.proofs.SlotLemmas.{same_itself, slot_within, name_of_slot}
-use Rattle.turn_stage.proofs.Parts.{not_both, is_false, same_or, has_more, without_less, without_this, without_other}
+use Rattle.turn_stage.proofs.PartLemmas.{not_both, is_false, same_or, has_more, without_less, without_this, without_other}
 use Rattle.hold_stage.proofs.GrowsLemmas.{grown_nothing, grown_fewer, keeps_along}
-use Rattle.turn_stage.proofs.Fronts.{start_bare}
-use Rattle.turn_stage.proofs.Moves.{turn_here, turn_other, filled_other, held_other, moved}
+use Rattle.turn_stage.proofs.FrontLemmas.{start_bare}
+use Rattle.turn_stage.proofs.MoveLemmas.{turn_here, turn_other, filled_other, held_other, moved}
 
 pub all_each : {A : Type 0} (P Q : A → Type 0) (xs : List A) → ((x : A) → P x → Q x) → AllByRecursion P xs → AllByRecursion Q xs
 all_each P Q [] step h = tt

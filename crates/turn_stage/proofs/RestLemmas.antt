@@ -7,7 +7,7 @@ use Rattle.hold_stage.specs.Touches.{there, same_part}
 use Rattle.turn_stage.specs.declared.data.View.{View}
 use Rattle.turn_stage.specs.Slots.{has, without_part}
 use Rattle.turn_stage.specs.Seats.{is_resting, is_empty, is_none, all_there, IsResting}
-use Rattle.turn_stage.proofs.Parts.{has_more}
+use Rattle.turn_stage.proofs.PartLemmas.{has_more}
 
 and_both : (a b : Bool) → a && b ≡ true → (a ≡ true) × (b ≡ true)
 and_both true b h = (refl, h)

@@ -15,9 +15,9 @@ use Rattle.ep_model.specs.Front.{begun, started, world_of, with_event, with_even
 use Rattle.ep_model.specs.Legal.{IsUnused, IsBelow, Caused, MayAsk, May, AreLegal, IsLegal}
 use Rattle.ep_model.proofs.HistoryLemmas.{legal-front}
 use Rattle.hold_stage.specs.Waits.{waits_after, waits_in, is_waiting}
-use Rattle.hold_stage.proofs.Later.{world_step, more_events, mark_append}
-use Rattle.hold_stage.proofs.Legality.{all_front}
-use Rattle.hold_stage.proofs.Mutations.{step_rises}
+use Rattle.hold_stage.proofs.LaterLemmas.{world_step, more_events, mark_append}
+use Rattle.hold_stage.proofs.LegalLemmas.{all_front}
+use Rattle.hold_stage.proofs.MutationLemmas.{step_rises}
 
 -- the start is stored, no more is stored than there is, and no more is marked than is stored
 pub record Bounds (f : FrontData) : Type 0 where

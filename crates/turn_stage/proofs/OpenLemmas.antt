@@ -27,9 +27,9 @@ use Rattle.turn_stage.specs.Slots.{turn_of, has}
 use Rattle.turn_stage.specs.Rule.{IsEnded, Fits, Turned}
 use Rattle.turn_stage.specs.Parts.{AreParts, first_view}
 use Rattle.hold_stage.proofs.SlotLemmas.{slot_within, name_of_slot}
-use Rattle.turn_stage.proofs.Parts.{not_both}
-use Rattle.turn_stage.proofs.Seats.{at_one, shares_two}
-use Rattle.turn_stage.proofs.Steps.{all_each}
+use Rattle.turn_stage.proofs.PartLemmas.{not_both}
+use Rattle.turn_stage.proofs.SeatLemmas.{at_one, shares_two}
+use Rattle.turn_stage.proofs.StepLemmas.{all_each}
 
 only_first : {A : Type 0} (a b : A) (i : ℕ) → get_elem? (a ∷ []) i ≡ some b → (i ≡ 0) × (a ≡ b)
 only_first a b zero e = (refl, some-injective a b e)

@@ -17,11 +17,11 @@ use Rattle.vb_world.specs.declared.place.Bucket.{Bucket}
 use Rattle.vb_world.specs.declared.data.BucketData.{BucketData}
 use Rattle.vb_world.specs.declared.data.WorldData.{WorldData}
 use Rattle.vb_world.specs.Buckets.{bucket_data}
-use Rattle.vb_world.specs.World.{slot_of, home_of, place_at, part_in, front_in, changed_at, put_place, put_start, bucket_of, with_origin, empty_world, StandBare, Sound}
-use Rattle.vb_world.proofs.Lists.{all-get}
+use Rattle.vb_world.specs.World.{slot_of, home_of, place_at, part_in, front_in, changed_at, put_place, put_start, bucket_of, with_origin, no_buckets, StandBare, Sound}
+use Rattle.vb_world.proofs.ListLemmas.{all-get}
 use Rattle.hold_stage.proofs.SlotLemmas.{slot_within}
-use Rattle.vb_world.proofs.Places.{home_within, part_there}
-use Rattle.vb_world.proofs.Sounds.{sound_placed, sound_beside, sound_begun, sound_noted, sound_pushed, sound_empty, Keeps}
+use Rattle.vb_world.proofs.PlaceLemmas.{home_within, part_there}
+use Rattle.vb_world.proofs.SoundLemmas.{sound_placed, sound_beside, sound_begun, sound_noted, sound_pushed, sound_empty, TouchesLaw}
 
 module _ {P : Type 0} (stands : PartName → FrontData → P → Type 0) where
   -- a part's place is one of its vBucket
@@ -73,7 +73,7 @@ module _ {P : Type 0} (stands : PartName → FrontData → P → Type 0) where
       (sound_begun stands w vb start law s (omega arith) (ap (λ (d : WorldData P). (front_in d vb).start) is ∙ bare) (λ p. ap (λ (d : WorldData P). part_in d vb p) is ∙ away p))
 
   -- an event was noted
-  pub noted_so : {T E : Type 0} (w old : WorldData P) (vb : ℕ) (event : EventData) (history : List (ℕ × EventData)) (events bytes : ℕ) (result : Result T E) → Keeps stands → Sound stands w → w ≡ old
+  pub noted_so : {T E : Type 0} (w old : WorldData P) (vb : ℕ) (event : EventData) (history : List (ℕ × EventData)) (events bytes : ℕ) (result : Result T E) → TouchesLaw stands → Sound stands w → w ≡ old
       → vb < length old.buckets → ((p : PartName) → touches (front_in old vb) event p ≡ true → part_in old vb p ≡ None) → May (front_in old vb) event
       → IsOk result → OnOk result (history ≡ w.history ++ (vb, event) ∷ []) → Sound stands (record w { history = history; event_room = events; byte_room = bytes })
   noted_so w old vb event history events bytes (Err e) keeps s is within away may ok noted = absurd (cc)
@@ -114,4 +114,4 @@ module _ {P : Type 0} (stands : PartName → FrontData → P → Type 0) where
   made config history buckets losses events bytes fine bare empty =
       subst (λ (h : List (ℕ × EventData)). Sound stands (record { config = config; history = h; buckets = buckets; losses = losses; event_room = events; byte_room = bytes })) (sym bare)
       (subst (λ (bs : List (BucketData P)). Sound stands (record { config = config; history = []; buckets = bs; losses = losses; event_room = events; byte_room = bytes })) (sym empty)
-      (sound_beside stands (empty_world config) losses events bytes (sound_empty stands config fine)))
+      (sound_beside stands (no_buckets config) losses events bytes (sound_empty stands config fine)))

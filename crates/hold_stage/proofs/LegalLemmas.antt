@@ -25,11 +25,11 @@ use Rattle.ep_model.proofs.HistoryLemmas.{legal-push, legal-front}
 use Rattle.hold_stage.specs.Touches.{touches_call, touches, is_of, is_call}
 use Rattle.hold_stage.specs.Grows.{Quiet}
 use Rattle.hold_stage.specs.Laws.{LegalLater}
-use Rattle.hold_stage.proofs.Callers.{same_is}
-use Rattle.hold_stage.proofs.Views.{SameStripe, SameQueue, or_true_left, touches_keyed}
+use Rattle.hold_stage.proofs.CallerLemmas.{same_is}
+use Rattle.hold_stage.proofs.ViewLemmas.{SameStripe, SameQueue, or_true_left, touches_keyed}
 use Rattle.hold_stage.proofs.QuotaLemmas.{short_later}
-use Rattle.hold_stage.proofs.Answers.{get_same, keyed_same, unkeyed_same}
-use Rattle.hold_stage.proofs.Later.{all_append, quiet_stripe, quiet_queue, same_frame, quiet_mark, quiet_below, quiet_no_fault, quiet_silent, persisted_later, opened_later}
+use Rattle.hold_stage.proofs.AnswerLemmas.{get_same, keyed_same, unkeyed_same}
+use Rattle.hold_stage.proofs.LaterLemmas.{all_append, quiet_stripe, quiet_queue, same_frame, quiet_mark, quiet_below, quiet_no_fault, quiet_silent, persisted_later, opened_later}
 
 -- a key's stripe is one that there is
 pub key_there : (key : List ℕ) (stripes : ℕ) → 0 < stripes → nat_lt (stripe_of key stripes) stripes ≡ true

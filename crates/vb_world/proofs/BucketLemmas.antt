@@ -10,7 +10,7 @@ use Rattle.vb_world.specs.declared.place.Place.{Place}
 use Rattle.vb_world.specs.declared.data.BucketData.{BucketData}
 use Rattle.vb_world.specs.Buckets.{bucket_data}
 use Rattle.vb_world.specs.World.{changed_at, put_place, put_start}
-use Rattle.vb_world.proofs.Lists.{map-set_changed, map-set_kept}
+use Rattle.vb_world.proofs.ListLemmas.{map-set_changed, map-set_kept}
 
 module _ {P : Type 0} where
   -- the vBucket with these places

@@ -7,7 +7,7 @@ use Rattle.ep_model.specs.declared.data.StartData.{StartData}
 use Rattle.ep_model.specs.Front.{with_event, with_events, with_start}
 use Rattle.hold_stage.specs.Grows.{Quiet, IsQuiet, IsNone, Grown}
 use Rattle.hold_stage.proofs.GrowsLemmas.{quiet_append, quiet_anywhere}
-use Rattle.turn_stage.proofs.Parts.{not_both}
+use Rattle.turn_stage.proofs.PartLemmas.{not_both}
 
 -- the history is the front with its own start and with more events
 pub grown_is : (f h : FrontData) (held : PartName → Bool) (caller : ℕ) (desk : Bool) (g : Grown f h held caller desk) → h ≡ with_events (with_start f h.start) g.more

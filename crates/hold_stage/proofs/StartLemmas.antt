@@ -13,7 +13,7 @@ use Rattle.ep_model.specs.World.{World}
 use Rattle.ep_model.specs.Front.{world_of, with_event}
 use Rattle.ep_model.specs.Legal.{Caused, May, AreLegal, IsLegal}
 use Rattle.hold_stage.specs.Laws.{LegalBegun}
-use Rattle.hold_stage.proofs.Later.{world_step, all_append}
+use Rattle.hold_stage.proofs.LaterLemmas.{world_step, all_append}
 
 -- a refusal since the vBucket hasn't opened
 abbrev IsWarming : EventData → Type 0

@@ -7,7 +7,7 @@ use Rattle.ep_model.specs.declared.data.CallData.TheVariants as calls
 use Rattle.ep_model.specs.World.{World}
 use Rattle.ep_model.specs.Answer.{answer}
 use Rattle.ep_model.specs.Calls.{key_of}
-use Rattle.hold_stage.proofs.Views.{SameQueue, SameFrame}
+use Rattle.hold_stage.proofs.ViewLemmas.{SameQueue, SameFrame}
 
 -- a Get by its document and the state
 pub get_same : (v w : World) (key : List ℕ) (now : ℕ) → get w.docs key ≡ get v.docs key → w.state ≡ v.state → answer w (calls.Get key) now ≡ answer v (calls.Get key) now

@@ -21,7 +21,7 @@ use Rattle.turn_stage.specs.Rule.{IsLonger, Turned}
 use Rattle.turn_stage.specs.Plays.{part_of, Won, Tried, PutDown, PickedUp, Gave, Told, longer, joined_view}
 use Rattle.turn_stage.specs.Seats.{IsResting, Taken, Missed}
 use Rattle.hold_stage.proofs.SlotLemmas.{same_itself}
-use Rattle.turn_stage.proofs.Steps.{tries, puts_down, picks_up, gives_back, named}
+use Rattle.turn_stage.proofs.StepLemmas.{tries, puts_down, picks_up, gives_back, named}
 
 module _ {P : Type 0} (stands : PartName → FrontData → P → Type 0) (keep : (p : PartName) (f : FrontData) (event : EventData) (x : P) → IsLegal f → May f event → touches f event p ≡ false → stands p f x → stands p (with_event f event) x) where
   pub tries_at : (slots id : ℕ) (m : Me (Option P) View) (part : PartName) (slot : ℕ) → IsResting m → slot ≡ slot_of m.0.front.config part → there m.0.front.config part ≡ true

@@ -9,7 +9,7 @@ use Rattle.ep_model.specs.World.{Doc, World, live, stored_expiry, next_doc, put}
 use Rattle.ep_model.specs.Refusals.{number_refusal}
 use Rattle.ep_model.specs.Answer.{Answer, unless, shows, put_success, shown_flags, shown_value, answer_touch}
 use Rattle.ep_model.specs.Plain.{Does, Serves, value_of}
-use Rattle.ep_model.proofs.ReadBack.{get-put}
+use Rattle.ep_model.proofs.ReadBackLemmas.{get-put}
 
 -- two numbers that differ fail the test
 differ-test : (a b : ℕ) → a ≢ b → (a == b) ≡ false

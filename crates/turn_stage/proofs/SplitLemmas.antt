@@ -14,16 +14,16 @@ use Rattle.ep_model.specs.Front.{with_start}
 use Rattle.hold_stage.specs.Touches.{is_of}
 use Rattle.hold_stage.specs.Grows.{IsNone, Grown}
 use Rattle.hold_stage.proofs.GrowsLemmas.{grown_fewer, grown_still}
-use Rattle.hold_stage.proofs.Later.{all_append}
+use Rattle.hold_stage.proofs.LaterLemmas.{all_append}
 use Rattle.turn_stage.specs.declared.data.View.{View}
 use Rattle.turn_stage.specs.Slots.{has}
 use Rattle.turn_stage.specs.Rule.{IsEnded, Fits, Apart, AnySeat, IsUnspoken, Turned}
 use Rattle.turn_stage.specs.Plays.{longer, without_number, with_number, gives, joined_view, spent_view}
-use Rattle.turn_stage.proofs.Parts.{not_both}
-use Rattle.turn_stage.proofs.Seats.{at_within, at_one, each_set, two_set, any_set, each_push, two_push, any_push, shares_set, shares_push}
-use Rattle.turn_stage.proofs.Moves.{apart_turned}
-use Rattle.turn_stage.proofs.Steps.{all_each}
-use Rattle.turn_stage.proofs.Longer.{IsOthers, quiet_others, others_quiet, Before, ordered, shorter_grown, longer_mine, longer_other, longer_whole}
+use Rattle.turn_stage.proofs.PartLemmas.{not_both}
+use Rattle.turn_stage.proofs.SeatLemmas.{at_within, at_one, each_set, two_set, any_set, each_push, two_push, any_push, shares_set, shares_push}
+use Rattle.turn_stage.proofs.MoveLemmas.{apart_turned}
+use Rattle.turn_stage.proofs.StepLemmas.{all_each}
+use Rattle.turn_stage.proofs.LongerLemmas.{IsOthers, quiet_others, others_quiet, Before, ordered, shorter_grown, longer_mine, longer_other, longer_whole}
 
 all_back : {A : Type 0} (P : A → Type 0) (xs ys : List A) → AllByRecursion P (xs ++ ys) → AllByRecursion P ys
 all_back P [] ys all = all

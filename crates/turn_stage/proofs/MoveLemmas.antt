@@ -18,8 +18,8 @@ use Rattle.hold_stage.specs.Slots.{slot_of}
 use Rattle.turn_stage.specs.Slots.{turn_of, has}
 use Rattle.turn_stage.specs.Rule.{IsHeld, Fits, Apart, AnySeat, IsHome, IsUnspoken, Turned}
 use Rattle.hold_stage.proofs.SlotLemmas.{slots_apart}
-use Rattle.turn_stage.proofs.Parts.{not_both, is_false}
-use Rattle.turn_stage.proofs.Seats.{each_set, two_set, any_set, any_mine, shares_set}
+use Rattle.turn_stage.proofs.PartLemmas.{not_both, is_false}
+use Rattle.turn_stage.proofs.SeatLemmas.{each_set, two_set, any_set, any_mine, shares_set}
 
 -- being apart is mutual
 pub apart_turned : (v w : View) → Apart v w → Apart w v

@@ -17,7 +17,7 @@ use Rattle.vb_world.specs.declared.place.Place.TheVariants.{Home, Out}
 use Rattle.vb_world.specs.declared.data.BucketData.{BucketData}
 use Rattle.vb_world.specs.declared.data.WorldData.{WorldData}
 use Rattle.vb_world.specs.World.{slot_of, place_at, place_in, home_of, part_in, is_out_with, has_out, changed_at, put_place, put_start, with_place, with_origin, with_bucket, bucket_of}
-use Rattle.vb_world.proofs.Lists.{get-changed, get-changed_other, get-changed_kept, all-get, get_set, get_set_other, get_within, get_push, get_push_last}
+use Rattle.vb_world.proofs.ListLemmas.{get-changed, get-changed_other, get-changed_kept, all-get, get_set, get_set_other, get_within, get_push, get_push_last}
 
 -- parts and their names
 pub same_turned : (p q : PartName) → same_part p q ≡ same_part q p

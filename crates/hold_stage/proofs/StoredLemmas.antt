@@ -9,9 +9,9 @@ use Rattle.std.proofs.lemmas.Slice.Eq.{bytes_eq-Decides}
 use Rattle.ep_model.specs.declared.data.EventData.{EventData}
 use Rattle.ep_model.specs.World.{Doc, Docs, World, put}
 use Rattle.ep_model.specs.History.{step, after, upto}
-use Rattle.ep_model.proofs.ReadBack.{get-put, get-put_other}
+use Rattle.ep_model.proofs.ReadBackLemmas.{get-put, get-put_other}
 use Rattle.ep_model.specs.Mutations.{mutation_of, mutations, above, laid_on}
-use Rattle.hold_stage.proofs.Mutations.{IsNextPut, mutation_is_next, SameStored, stored_refl, stored_then, IsPut, step_is_put, step_rises, after_rises}
+use Rattle.hold_stage.proofs.MutationLemmas.{IsNextPut, mutation_is_next, SameStored, stored_refl, stored_then, IsPut, step_is_put, step_rises, after_rises}
 
 same_number : (a b : ℕ) → a ≡ b → (a == b) ≡ true
 same_number a b is = (Decides-eqb a b).1 is

@@ -23,11 +23,11 @@ use Rattle.vb_world.specs.declared.place.Place.{Place}
 use Rattle.vb_world.specs.declared.place.Place.TheVariants.{Home}
 use Rattle.vb_world.specs.declared.data.BucketData.{BucketData}
 use Rattle.vb_world.specs.declared.data.WorldData.{WorldData}
-use Rattle.vb_world.specs.World.{slot_of, home_of, part_in, put_place, put_start, start_of, front_in, bare_front, with_place, with_origin, with_bucket, bucket_of, empty_world, StandBare, Sound}
-use Rattle.vb_world.proofs.Lists.{get-changed, get-changed_other, get-changed_kept, length-changed, all-changed, all-push, all-map, get_push, get_push_last, get_within}
-use Rattle.vb_world.proofs.Histories.{events_of-push, events_of-push-other}
+use Rattle.vb_world.specs.World.{slot_of, home_of, part_in, put_place, put_start, start_of, front_in, bare_front, with_place, with_origin, with_bucket, bucket_of, no_buckets, StandBare, Sound}
+use Rattle.vb_world.proofs.ListLemmas.{get-changed, get-changed_other, get-changed_kept, length-changed, all-changed, all-push, all-map, get_push, get_push_last, get_within}
+use Rattle.vb_world.proofs.HistoryLemmas.{events_of-push, events_of-push-other}
 use Rattle.hold_stage.proofs.SlotLemmas.{name_of_slot, part_same}
-use Rattle.vb_world.proofs.Places.{place_other, part_put, home_within, place_begun, part_pushed, part_new}
+use Rattle.vb_world.proofs.PlaceLemmas.{place_other, part_put, home_within, place_begun, part_pushed, part_new}
 
 -- a vBucket has no events where all are of vBuckets below it
 pub events_below : (n : ℕ) (pairs : List (ℕ × EventData)) → AllByRecursion (λ (pair : ℕ × EventData). pair.0 < n) pairs → events_of n pairs ≡ []
@@ -114,16 +114,16 @@ module _ {P : Type 0} where
     pub sound_beside : (w : WorldData P) (losses events bytes : ℕ) → Sound stands w → Sound stands (record w { losses = losses; event_room = events; byte_room = bytes })
     sound_beside w losses events bytes s = record { least = s.least; most = s.most; count = s.count; shapes = s.shapes; below = s.below; legal = s.legal; stand = s.stand }
 
-    abbrev pub Keeps : Type 0
-    Keeps = (p : PartName) (f : FrontData) (event : EventData) (x : P) → IsLegal f → May f event → touches f event p ≡ false → stands p f x → stands p (with_event f event) x
+    abbrev pub TouchesLaw : Type 0
+    TouchesLaw = (p : PartName) (f : FrontData) (event : EventData) (x : P) → IsLegal f → May f event → touches f event p ≡ false → stands p f x → stands p (with_event f event) x
 
-    noted_here : (w : WorldData P) (id : ℕ) (event : EventData) → Keeps → Sound stands w → May (front_in w id) event
+    noted_here : (w : WorldData P) (id : ℕ) (event : EventData) → TouchesLaw → Sound stands w → May (front_in w id) event
         → ((p : PartName) → touches (front_in w id) event p ≡ true → part_in w id p ≡ None)
         → (q : PartName) (x : P) → part_in w id q ≡ Some x → (b : Bool) → touches (front_in w id) event q ≡ b → stands q (with_event (front_in w id) event) x
     noted_here w id event keeps s may away q x e true t = let gone : part_in w id q ≡ None = away q t in absurd (cc)
     noted_here w id event keeps s may away q x e false t = keeps q (front_in w id) event x (s.legal id) may t (s.stand id q x e)
 
-    noted_stand : (w : WorldData P) (id : ℕ) (event : EventData) (events bytes : ℕ) → Keeps → Sound stands w → May (front_in w id) event
+    noted_stand : (w : WorldData P) (id : ℕ) (event : EventData) (events bytes : ℕ) → TouchesLaw → Sound stands w → May (front_in w id) event
         → ((p : PartName) → touches (front_in w id) event p ≡ true → part_in w id p ≡ None)
         → (other : ℕ) (q : PartName) (x : P) → part_in w other q ≡ Some x → stands q (front_in (noted w id event events bytes) other) x
     noted_stand w id event events bytes keeps s may away other q x e =
@@ -141,7 +141,7 @@ module _ {P : Type 0} where
         ]
 
     -- an event was noted while no part that it touches was at home
-    pub sound_noted : (w : WorldData P) (id : ℕ) (event : EventData) (events bytes : ℕ) → Keeps → Sound stands w → id < length w.buckets → May (front_in w id) event
+    pub sound_noted : (w : WorldData P) (id : ℕ) (event : EventData) (events bytes : ℕ) → TouchesLaw → Sound stands w → id < length w.buckets → May (front_in w id) event
         → ((p : PartName) → touches (front_in w id) event p ≡ true → part_in w id p ≡ None) → Sound stands (noted w id event events bytes)
     sound_noted w id event events bytes keeps s within may away = record {
       least = s.least;
@@ -222,12 +222,12 @@ module _ {P : Type 0} where
         }
 
     -- a world with no vBucket
-    pub sound_empty : (config : Config) → config_fault config ≡ None → Sound stands (empty_world config)
+    pub sound_empty : (config : Config) → config_fault config ≡ None → Sound stands (no_buckets config)
     sound_empty config e =
         let a = fault_none (is_outside config.vbuckets 1 1024) Vbuckets _ e in
         let b = fault_none (is_outside config.stripes 1 64) Stripes _ a.1 in
         let p = or_parts (nat_lt config.stripes 1) (nat_lt 64 config.stripes) b.0 in
-        let w : WorldData P = empty_world config in
+        let w : WorldData P = no_buckets config in
         record {
           least = ltb-false config.stripes 1 p.0;
           most = ltb-false 64 config.stripes p.1;

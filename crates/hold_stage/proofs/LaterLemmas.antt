@@ -16,7 +16,7 @@ use Rattle.ep_model.specs.Legal.{IsSilent, IsBelow, IsNoFault, May, AreLegal}
 use Rattle.ep_model.proofs.HistoryLemmas.{after-append}
 use Rattle.hold_stage.specs.Touches.{touches, is_of}
 use Rattle.hold_stage.specs.Grows.{Quiet}
-use Rattle.hold_stage.proofs.Views.{SameStripe, stripe_refl, stripe_then, SameQueue, queue_refl, queue_then, SameFrame, frame_after, step_stripe, step_queue, step_mark, step_below, not_same}
+use Rattle.hold_stage.proofs.ViewLemmas.{SameStripe, stripe_refl, stripe_then, SameQueue, queue_refl, queue_then, SameFrame, frame_after, step_stripe, step_queue, step_mark, step_below, not_same}
 
 -- the world after a front is the world after its events and one more, or more
 pub world_after : (f : FrontData) (more : List EventData) → world_of (with_events f more) ≡ after (world_of f) more

@@ -17,19 +17,19 @@ use Rattle.ep_model.specs.Legal.{May, IsLegal}
 use Rattle.ep_model.proofs.HistoryLemmas.{legal-push}
 use Rattle.hold_stage.specs.Touches.{there, touches, is_of, is_desks}
 use Rattle.hold_stage.specs.Grows.{Quiet, Covered, Grown, Keeps, IsOwn}
-use Rattle.hold_stage.proofs.Callers.{of_one, of_call, touches_later, touches_some}
-use Rattle.hold_stage.proofs.Later.{all_append}
-use Rattle.hold_stage.proofs.Legality.{legal_later}
-use Rattle.hold_stage.proofs.Begun.{legal_begun}
+use Rattle.hold_stage.proofs.CallerLemmas.{of_one, of_call, touches_later, touches_some}
+use Rattle.hold_stage.proofs.LaterLemmas.{all_append}
+use Rattle.hold_stage.proofs.LegalLemmas.{legal_later}
+use Rattle.hold_stage.proofs.StartLemmas.{legal_begun}
 use Rattle.turn_stage.specs.declared.data.View.{View}
 use Rattle.turn_stage.specs.Slots.{has}
 use Rattle.turn_stage.specs.Rule.{IsEnded, Fits, Turned}
 use Rattle.turn_stage.specs.Plays.{Notes, Begins}
-use Rattle.turn_stage.proofs.Parts.{not_both, is_false}
+use Rattle.turn_stage.proofs.PartLemmas.{not_both, is_false}
 use Rattle.hold_stage.proofs.GrowsLemmas.{grown_nothing, keeps_along}
-use Rattle.turn_stage.proofs.Fronts.{grown_noted, grown_begun, start_held, start_desk, start_bare, quiet_own, is_more}
-use Rattle.turn_stage.proofs.Moves.{turn_count, held_count, moved}
-use Rattle.turn_stage.proofs.Steps.{all_each, grown_length}
+use Rattle.turn_stage.proofs.FrontLemmas.{grown_noted, grown_begun, start_held, start_desk, start_bare, quiet_own, is_more}
+use Rattle.turn_stage.proofs.MoveLemmas.{turn_count, held_count, moved}
+use Rattle.turn_stage.proofs.StepLemmas.{all_each, grown_length}
 
 module _ {P : Type 0} (stands : PartName → FrontData → P → Type 0) (keep : (p : PartName) (f : FrontData) (event : EventData) (x : P) → IsLegal f → May f event → touches f event p ≡ false → stands p f x → stands p (with_event f event) x) where
   -- word 0 was read, and the words are the same

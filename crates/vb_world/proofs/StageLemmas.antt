@@ -18,10 +18,10 @@ use Rattle.vb_world.specs.declared.place.Place.TheVariants.{Home, Out}
 use Rattle.vb_world.specs.declared.data.BucketData.{BucketData}
 use Rattle.vb_world.specs.declared.data.WorldData.{WorldData}
 use Rattle.vb_world.specs.World.{slot_of, home_of, part_in, has_out, front_in, fixed_in, is_out_with, put_place, put_start, changed_at, with_place, with_origin, with_loss, Sound}
-use Rattle.vb_world.proofs.Lists.{take-changed, drop-changed}
+use Rattle.vb_world.proofs.ListLemmas.{take-changed, drop-changed}
 use Rattle.hold_stage.proofs.SlotLemmas.{part_same}
-use Rattle.vb_world.proofs.Places.{part_put, out_taken, out_given, out_within, out_away, home_within, nowhere, place_begun}
-use Rattle.vb_world.proofs.Sounds.{noted, front_placed, front_begun, front_noted, Keeps as KeepsAll}
+use Rattle.vb_world.proofs.PlaceLemmas.{part_put, out_taken, out_given, out_within, out_away, home_within, nowhere, place_begun}
+use Rattle.vb_world.proofs.SoundLemmas.{noted, front_placed, front_begun, front_noted, TouchesLaw as KeepsAll}
 
 -- nothing was noted meanwhile
 pub grown_nothing : (f : FrontData) (held : PartName → Bool) (caller : ℕ) (desk : Bool) → Grown f f held caller desk

@@ -21,7 +21,7 @@ use Rattle.ep_model.specs.Calls.{key_of, written_key}
 use Rattle.ep_model.specs.Mutations.{put_by, mutation_of}
 use Rattle.ep_model.specs.Front.{mark_after}
 use Rattle.ep_model.specs.Legal.{IsBelow}
-use Rattle.ep_model.proofs.ReadBack.{get-put_other}
+use Rattle.ep_model.proofs.ReadBackLemmas.{get-put_other}
 use Rattle.ep_model.proofs.EffectLemmas.{IsDone, call_done}
 use Rattle.hold_stage.specs.Touches.{is_queue, holds_key, touches_call, touches}
 

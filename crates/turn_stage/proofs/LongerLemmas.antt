@@ -11,7 +11,7 @@ use Rattle.ep_model.specs.Front.{with_event, with_start}
 use Rattle.hold_stage.specs.Touches.{is_of, is_desks}
 use Rattle.hold_stage.specs.Grows.{Quiet, IsNone, Grown}
 use Rattle.turn_stage.specs.Plays.{longer_of, longer}
-use Rattle.turn_stage.proofs.Parts.{not_both}
+use Rattle.turn_stage.proofs.PartLemmas.{not_both}
 
 -- who holds nothing knows of the events that came only whose they are
 abbrev pub IsOthers : ℕ → Bool → EventData → Type 0
