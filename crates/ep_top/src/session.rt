@@ -115,6 +115,15 @@ fn take<R: Source>(feeder: &mut Feeder, limit: u64, source: &mut R) -> Got
     feeder.read_from(limit.min(PIECE as u64) as usize, source)
 }
 
+// Whether a session that took so many bytes takes no more.
+fn is_full(taken: u64) -> bool
+    requires { taken ≤ most_taken }
+    ensures full { result ≡ true → taken ≡ most_taken }
+    ensures going { result ≡ false → taken < most_taken }
+{
+    taken == MAX_TAKEN
+}
+
 // How many more bytes a session takes that took so many.
 fn left_to_take(taken: u64) -> u64
     requires { taken ≤ most_taken }
@@ -151,7 +160,7 @@ fn serve_stream<R: Source, W: Sink, C: Clock>(
         (outside (R.left source.new) (R.left_before source.new) (R.has_ended source.new) (R.ended_before source.new) (R.faults source.new) (W.held sink.new) (W.last_offer sink.new) (W.faults sink.new) (C.moment clock.new)) result responder.new }
 {
     let mut taken: u64 = 0;
-    'pieces: while taken < MAX_TAKEN {
+    'pieces: while !is_full(taken) {
         match take(feeder, left_to_take(taken), source) {
             Got::Bytes(n) => {
                 taken += n as u64;
