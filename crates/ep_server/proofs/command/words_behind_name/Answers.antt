@@ -11,6 +11,6 @@ returns-clause-words c =
     let all = YieldsList-from_vec (into_iter_items args)
     (ap into_iter_items c.skip.ensures.source)
     (ap into_iter_len c.skip.ensures.source ∙ args.rest.ok.0) in
-    let collected : IfOk c.collect.result (λ words. words.items ≡ drop 1 (into_iter_items args)) =
-    items_from_collect c.collect.result c.collect.ensures.ran (YieldsList-from_skip 1 all c.skip.ensures.count)
+    let collected =
+    items_from_collect c.collect.result c.collect.ensures.ran (YieldsList-from_skip _ all c.skip.ensures.count)
     in search (rules, collected)
