@@ -13,6 +13,6 @@ loop-piece-smaller c = piece-less c.next_piece.result c.in-Some.piece c.loop-pie
 pub loop-piece-preserved : goal.loop-piece-preserved
 loop-piece-preserved c =
     let copied = copied-more c.loop-piece.at (c.loop-piece.at + length c.in-Some.piece.now) c.loop-piece.into c.loop-piece.pieces c.args.into.now c.pieces-pieces.result c.in-Some.piece.now c.next_piece.new.self c.write_at.new.into c.loop-piece.invariant
-        (subst (λ (x : List ℕ). length x ≤ 250) (sym c.pieces-pieces.ensures) c.requires)
-        c.in-Some.ensures.piece c.next_piece.ensures.rest refl c.write_at.ensures in
+    (subst (λ (x : List ℕ). length x ≤ 250) (sym c.pieces-pieces.ensures) c.requires)
+    c.in-Some.ensures.piece c.next_piece.ensures.rest refl c.write_at.ensures in
     search rules

@@ -1,4 +1,4 @@
-use Rattle.std.proofs.Common.{rules, ap, sym, ◌∙◌}
+use Rattle.std.proofs.Common.{ap, sym, ◌∙◌}
 use Rattle.std.proofs.Math.ListN.{set}
 use Rattle.std.specs.Prelude.{is_some}
 use Rattle.fetch_book.specs.Books.{BookData}
@@ -7,9 +7,10 @@ use Rattle.fetch_book.proofs.BookLemmas.{settled-there, settled-nowhere, book-se
 use Rattle.fetch_book.proofs.book.Book.settle.Goals as goal
 
 pub invariant_of-self : goal.invariant_of-self
-invariant_of-self c =
-    let kept = book-settled (record { stripe = c.self.inside.stripe; next = c.self.inside.next; places = c.self.inside.places.items }) c.args.ticket c.args.outcome (set c.self.inside.places.items c.in-Some.index (record c.index_mut-place.result.now { outcome = c.args.outcome })) (settled-there c.self.inside.places.items c.deref.result.now c.args.ticket c.args.outcome c.position_of.result c.in-Some.index c.index_mut-place.result.now c.deref.ensures.value c.position_of.ensures.place c.in-Some.is c.index_mut-place.ensures.value).0 c.self.invariant.0 in
-    (search rules, c.self.invariant.1)
+invariant_of-self c = (
+  book-settled (record { stripe = c.self.inside.stripe; next = c.self.inside.next; places = c.self.inside.places.items }) c.args.ticket c.args.outcome (set c.self.inside.places.items c.in-Some.index (record c.index_mut-place.result.now { outcome = c.args.outcome })) (settled-there c.self.inside.places.items c.deref.result.now c.args.ticket c.args.outcome c.position_of.result c.in-Some.index c.index_mut-place.result.now c.deref.ensures.value c.position_of.ensures.place c.in-Some.is c.index_mut-place.ensures.value).0 c.self.invariant.0,
+  c.self.invariant.1,
+)
 
 pub returns-in-None-clause-settles : goal.returns-in-None-clause-settles
 returns-in-None-clause-settles c = (settled-nowhere c.self.inside.places.items c.deref.result.now c.args.ticket c.args.outcome c.position_of.result c.deref.ensures.value c.position_of.ensures.place c.in-None.is).1 ∙ ap (λ (b : BookData). is_some (place_at b.places c.args.ticket)) c.self.view_is
@@ -23,5 +24,4 @@ returns-in-Some-clause-settles c = (settled-there c.self.inside.places.items c.d
 
 pub returns-in-Some-clause-after : goal.returns-in-Some-clause-after
 returns-in-Some-clause-after c =
-    let after = view-settled (record { stripe = c.self.inside.stripe; next = c.self.inside.next; places = c.self.inside.places.items }) c.args.self.now c.args.ticket c.args.outcome (set c.self.inside.places.items c.in-Some.index (record c.index_mut-place.result.now { outcome = c.args.outcome })) (settled-there c.self.inside.places.items c.deref.result.now c.args.ticket c.args.outcome c.position_of.result c.in-Some.index c.index_mut-place.result.now c.deref.ensures.value c.position_of.ensures.place c.in-Some.is c.index_mut-place.ensures.value).0 c.self.view_is in
-    search rules
+    view-settled (record { stripe = c.self.inside.stripe; next = c.self.inside.next; places = c.self.inside.places.items }) c.args.self.now c.args.ticket c.args.outcome (set c.self.inside.places.items c.in-Some.index (record c.index_mut-place.result.now { outcome = c.args.outcome })) (settled-there c.self.inside.places.items c.deref.result.now c.args.ticket c.args.outcome c.position_of.result c.in-Some.index c.index_mut-place.result.now c.deref.ensures.value c.position_of.ensures.place c.in-Some.is c.index_mut-place.ensures.value).0 c.self.view_is
