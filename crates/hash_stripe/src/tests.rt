@@ -66,8 +66,6 @@ fn only_of(alloc: Global, blocks: u32, eviction: Eviction) -> Option<Only> {
 }
 
 impl Only {
-    ghost use Rattle.ep_model.specs.Limits.{IsKey, IsValue};
-
     /// Puts a document where it fits, and answers whether it does.
     fn put(&mut self, key: &[u8], seqno: u64, value: &[u8]) -> bool
         requires key { IsKey key.now }

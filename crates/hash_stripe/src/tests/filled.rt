@@ -8,8 +8,6 @@ use ep_model::{Eviction, Out, stripe_of};
 use std::alloc::Global;
 
 impl Only {
-    ghost use Rattle.ep_model.specs.Limits.{IsKey, IsValue};
-
     /// Puts a stored document back whose value is away.
     fn restore(&mut self, key: &[u8], value: &[u8]) -> Option<Result<(), Short>>
         requires key { IsKey key.now }
