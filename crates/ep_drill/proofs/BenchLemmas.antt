@@ -287,18 +287,20 @@ empty_holds config id (Some content) is =
     let same : content ≡ empty_content = cc in
     record { docs = λ told. ap (λ (c : Content). c.docs) same; version = ap (λ (c : Content). c.version) same; high = ap (λ (c : Content). c.high) same; maxcas = ap (λ (c : Content). c.maxcas) same }
 
-new_stands : (config : Config) (id : ℕ) (keeper : KeeperData) (reads : List (Option FetchedData)) → keeper.content ≡ Some empty_content → length reads ≡ config.stripes → ((stripe : ℕ) (r : FetchedData) → slice_get reads stripe ≡ Some (Some r) → ⊥)
+new_stands : (config : Config) (id : ℕ) (keeper : KeeperData) (reads : List (Option FetchedData)) → keeper.content ≡ Some empty_content → keeper.sure ≡ true → length reads ≡ config.stripes → ((stripe : ℕ) (r : FetchedData) → slice_get reads stripe ≡ Some (Some r) → ⊥)
     → BenchStands (record { config = config; id = id; start = Some empty_start; events = events.Opened ∷ [] }) (record { desk = new_desk keeper; batch = None; reads = reads })
-new_stands config id keeper reads holds count none = record {
+new_stands config id keeper reads holds sure count none = record {
   opened = refl;
   told = refl;
   desk = record {
     low = omega arith;
-    top = omega arith;
-    holds = empty_holds config id keeper.content holds;
+    top = λ _. omega arith;
+    holds = λ _. empty_holds config id keeper.content holds;
     persisted = refl;
     faults = (tt, tt);
-    tells = λ told. subst (λ (o : Option Content). IsSome o) (sym holds) refl;
+    sure = sure;
+    tells = λ _ told. subst (λ (o : Option Content). IsSome o) (sym holds) refl;
+    both = λ _ told. tt;
   };
   tells = subst (λ (o : Option Content). IsSome o) (sym holds) refl;
   known = refl;
@@ -311,9 +313,9 @@ new_stands config id keeper reads holds count none = record {
 }
 
 -- a desk before an empty store, where a vBucket just opened with nothing and no read was made
-pub bench_new : (f : FrontData) (keeper : KeeperData) (reads : List (Option FetchedData)) → f.start ≡ Some empty_start → f.events ≡ events.Opened ∷ [] → keeper.content ≡ Some empty_content → length reads ≡ f.config.stripes
+pub bench_new : (f : FrontData) (keeper : KeeperData) (reads : List (Option FetchedData)) → f.start ≡ Some empty_start → f.events ≡ events.Opened ∷ [] → keeper.content ≡ Some empty_content → keeper.sure ≡ true → length reads ≡ f.config.stripes
     → ((stripe : ℕ) (r : FetchedData) → slice_get reads stripe ≡ Some (Some r) → ⊥) → BenchStands f (record { desk = new_desk keeper; batch = None; reads = reads })
-bench_new f keeper reads start is holds count none =
+bench_new f keeper reads start is holds sure count none =
     let bench : BenchData = record { desk = new_desk keeper; batch = None; reads = reads } in
     subst (λ (l : List EventData). BenchStands (record f { events = l }) bench) (sym is)
-    (subst (λ (s : Option StartData). BenchStands (record { config = f.config; id = f.id; start = s; events = events.Opened ∷ [] }) bench) (sym start) (new_stands f.config f.id keeper reads holds count none))
+    (subst (λ (s : Option StartData). BenchStands (record { config = f.config; id = f.id; start = s; events = events.Opened ∷ [] }) bench) (sym start) (new_stands f.config f.id keeper reads holds sure count none))

@@ -1,6 +1,6 @@
 -- What the work at a stage of one vBucket is to the world and to the bench.
 use Rattle.std.proofs.Common.{◌≡◌, ◌<◌, ℕ, zero, suc, Bool, true, inl, inr, List, [], ◌∷◌, length, map, slice_get, slice_set, slice_index_or, refl, sym, ap, subst, ◌∙◌, arith}
-use Rattle.std.specs.Prelude.{Option, Some, None, is_some, ◌||◌, Result, Ok, Err, OkIff}
+use Rattle.std.specs.Prelude.{Option, Some, None, IfSome, is_some, ◌||◌, Result, Ok, Err, OkIff}
 use Rattle.std.specs.Option.{option_map}
 use Rattle.std.proofs.lemmas.List.{map-set}
 use Rattle.std.specs.Result.{result_unwrap_or}
@@ -66,6 +66,11 @@ no_read_at_stripe f bench reads stripe found b same there at is =
     let long : length (map (option_map fetched_data) reads) ≡ f.config.stripes = ap (λ (l : List (Option FetchedData)). length l) (sym same) ∙ b.count in
     ap (λ (l : List (Option FetchedData)). slice_get l stripe) same ∙ get_mapped (option_map fetched_data) reads stripe found None (omega arith) (sym at ∙ is)
 
+-- All that is stored is noted, so a batch of what isn't goes beyond it.
+taken_above : (f : FrontData) (bench : BenchData) (batch : Option BatchData) → BenchStands f bench → IsTaken f bench.desk.stored batch → IfSome batch (λ b. bench.desk.stored < b.to)
+taken_above f bench None b taken = tt
+taken_above f bench (Some batch) b taken = let known = b.known in let noted = b.desk.persisted in let more = taken.0.above in (let goes : bench.desk.stored < batch.to = omega arith in goes)
+
 -- The stage begins at the world `a`, and what is done there notes nothing.
 module _ (config : Config) (a s z : WorldData Part) (vb sv zv : ℕ) (ready : Ready config a) (within : vb < config.vbuckets) (w : s ≡ a) (at : sv ≡ vb) (fixed : fixed_in z zv ≡ fixed_in s sv) (home : AreHome (front_in s sv).config (part_in z zv))
     (front : front_in z zv ≡ front_in s sv) where
@@ -105,16 +110,18 @@ module _ (config : Config) (a s z : WorldData Part) (vb sv zv : ℕ) (ready : Re
 
   module _ (bench after : BenchData) (sure : bench.desk.doubt ≡ None) (parts : (p : PartName) → there (front_in s sv).config p ≡ true → part_in z zv p ≡ part_in s sv p) where
     -- a batch was taken, or none is needed
-    pub was_taken : (number : ℕ) (taken batch : Option BatchData) → taken ≡ batch → IsTaken (front_in s sv) bench.desk.stored taken → number ≡ count_of batch → after ≡ record bench { batch = batch } → WasTaken config vb number a z bench after
-    was_taken number taken batch same stands count left =
+    pub was_taken : (number : ℕ) (taken batch : Option BatchData) → taken ≡ batch → IsTaken (front_in s sv) bench.desk.stored taken → number ≡ count_of batch → after ≡ record bench { batch = batch } → BenchStands (front_in a vb) bench → WasTaken config vb number a z bench after
+    was_taken number taken batch same stands count left b =
         let here : IsTaken (front_in s sv) bench.desk.stored batch = subst (λ (o : Option BatchData). IsTaken (front_in s sv) bench.desk.stored o) same stands in
+        let there : IsTaken (front_in a vb) bench.desk.stored batch = subst (λ (f : FrontData). IsTaken f bench.desk.stored batch) here_front here in
         record {
           sure = sure;
           batch = batch;
           left = left;
           moved = here_moved;
           kept = all_still parts;
-          taken = subst (λ (f : FrontData). IsTaken f bench.desk.stored batch) here_front here;
+          taken = there;
+          above = taken_above (front_in a vb) bench batch b there;
           count = count;
         }
 

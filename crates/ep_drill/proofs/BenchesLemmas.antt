@@ -88,6 +88,7 @@ core_made config world benches callers keepers count ready opened sound made lon
       b.0,
       ap (λ (x : BenchData). x.desk) b.2,
       f.0,
+      f.1,
       ap (λ (x : BenchData). x.batch) b.2,
       ap (λ (x : BenchData). length x.reads) b.2 ∙ length_copies config.stripes None,
       λ stripe r is.

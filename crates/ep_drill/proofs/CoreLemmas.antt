@@ -194,20 +194,20 @@ opened_front config vb = record { config = config; id = vb; start = Some empty_s
 
 -- A bench over an empty store, with no batch and no read.
 abbrev IsFresh : Config → BenchData → Type 0
-IsFresh config bench = (keeper : KeeperData) × (bench.desk ≡ new_desk keeper) × (keeper.content ≡ Some empty_content) × (bench.batch ≡ None) × (length bench.reads ≡ config.stripes)
+IsFresh config bench = (keeper : KeeperData) × (bench.desk ≡ new_desk keeper) × (keeper.content ≡ Some empty_content) × (keeper.sure ≡ true) × (bench.batch ≡ None) × (length bench.reads ≡ config.stripes)
     × ((stripe : ℕ) (r : FetchedData) → slice_get bench.reads stripe ≡ Some (Some r) → ⊥)
 
 fresh_stands : (config : Config) (f : FrontData) (vb : ℕ) (bench : BenchData) → f ≡ opened_front config vb → IsFresh config bench → BenchStands f bench
 fresh_stands config f vb bench is fresh =
     let made : BenchStands f (record { desk = new_desk fresh.0; batch = None; reads = bench.reads }) =
-    bench_new f fresh.0 bench.reads (ap (λ (g : FrontData). g.start) is) (ap (λ (g : FrontData). g.events) is) fresh.2 (fresh.4 ∙ sym (ap (λ (g : FrontData). g.config.stripes) is)) fresh.5 in
-    subst (λ (o : Option BatchData). BenchStands f (record { desk = bench.desk; batch = o; reads = bench.reads })) (sym fresh.3)
+    bench_new f fresh.0 bench.reads (ap (λ (g : FrontData). g.start) is) (ap (λ (g : FrontData). g.events) is) fresh.2 fresh.3 (fresh.5 ∙ sym (ap (λ (g : FrontData). g.config.stripes) is)) fresh.6 in
+    subst (λ (o : Option BatchData). BenchStands f (record { desk = bench.desk; batch = o; reads = bench.reads })) (sym fresh.4)
     (subst (λ (d : DeskData). BenchStands f (record { desk = d; batch = None; reads = bench.reads })) (sym fresh.1) made)
 
 -- a new core, whose vBuckets were just opened with nothing and whose callers have no calls
 pub core_new : (config : Config) (world : WorldData Part) (benches : List BenchData) (callers : List CallerData) → Ready config world → Sound part_stands world → length benches ≡ config.vbuckets
     → ((vb : ℕ) → vb < config.vbuckets → front_in world vb ≡ record { config = config; id = vb; start = Some empty_start; events = events.Opened ∷ [] })
-    → ((vb : ℕ) (bench : BenchData) → slice_get benches vb ≡ Some bench → (keeper : KeeperData) × (bench.desk ≡ new_desk keeper) × (keeper.content ≡ Some empty_content) × (bench.batch ≡ None) × (length bench.reads ≡ config.stripes)
+    → ((vb : ℕ) (bench : BenchData) → slice_get benches vb ≡ Some bench → (keeper : KeeperData) × (bench.desk ≡ new_desk keeper) × (keeper.content ≡ Some empty_content) × (keeper.sure ≡ true) × (bench.batch ≡ None) × (length bench.reads ≡ config.stripes)
     × ((stripe : ℕ) (r : FetchedData) → slice_get bench.reads stripe ≡ Some (Some r) → ⊥))
     → ((number : ℕ) (caller : CallerData) → slice_get callers number ≡ Some caller → caller ≡ record { calls = []; answered = 0; prior = None })
     → Interleaves (record { config = config; world = world; benches = benches; callers = callers })

@@ -41,7 +41,7 @@ use Rattle.ep_drill.specs.Parts.{Becomes}
 use Rattle.ep_drill.specs.Fetches.{settles, put_back_value, put_back_node, put_back_found, IsOldest, IsFoundIn, Reads, IsBack, HasPlace, HasOutcome, HasValue}
 use Rattle.ep_drill.proofs.AskLemmas.{place_at, ticket_is}
 use Rattle.hold_stage.proofs.WaitLemmas.{waiting_low}
-use Rattle.ep_drill.proofs.StoreLemmas.{waiting_stored, fetched_key, fetched_any, fetched_row}
+use Rattle.ep_drill.proofs.StoreLemmas.{waiting_stored, fetched_key, fetched_any, fetched_row, has_start}
 use Rattle.ep_drill.proofs.PartLemmas.{settled_stands, may_fail, failed_stands, restored_stands}
 use Rattle.ep_drill.proofs.SetLemmas.{node_at_put}
 
@@ -60,6 +60,14 @@ first_at P (first ∷ places) place is all =
 oldest_is : (first : Option PlaceData) (number : ℕ) (key room : Vec ℕ Global) → IsOldest first (Some (number, key, room)) → (place : PlaceData) × (first ≡ Some place) × (number ≡ place.number) × (key.items ≡ place.key)
 oldest_is None number key room h = absurd h
 oldest_is (Some place) number key room h = (place, refl, h.0, h.1)
+
+opens : (b : Bool) → (b ≡ false → ⊥) → b ≡ true
+opens true h = refl
+opens false h = absurd (h refl)
+
+no_oldest : (first : Option PlaceData) (number : ℕ) (key room : Vec ℕ Global) → first ≡ None → IsOldest first (Some (number, key, room)) → ⊥
+no_oldest None number key room is h = h
+no_oldest (Some place) number key room is h = cc
 
 -- whoever waits longest waits at its place's ticket
 oldest_waits : (f : FrontData) (stripe : ℕ) (x : StripeData) (number : ℕ) (key room : Vec ℕ Global) → StripeStands f stripe x → IsOldest (first_waiting x.places) (Some (number, key, room)) → is_waiting f (ticket_of stripe number) key.items ≡ true
@@ -93,25 +101,25 @@ abbrev IsFoundAt : DeskData → List ℕ → FoundData → Type 0
 IsFoundAt desk key found = (c : Content) → desk.keeper.content ≡ Some c → IsFoundIn c key found
 
 -- what was found at a sure desk stands for whoever waits at a ticket
-found_stands : (f : FrontData) (ticket : Ticket) (key : List ℕ) (desk now : DeskData) (found : FoundData) → IsLegal f → f.config.eviction ≡ Value → desk.doubt ≡ None → DeskStands f desk
+found_stands : (f : FrontData) (ticket : Ticket) (key : List ℕ) (desk now : DeskData) (found : FoundData) → IsLegal f → f.config.eviction ≡ Value → desk.doubt ≡ None → DeskStands f desk → IsSome f.start
     → is_waiting f ticket key ≡ true → IsFoundAt desk key found → Reads desk now found → FetchedStands f (fetched_of ticket key found)
-found_stands f ticket key desk now (founds.Row doc) legal eviction sure d waits is reads =
+found_stands f ticket key desk now (founds.Row doc) legal eviction sure d put waits is reads =
     fetched_row f ticket key doc (fetched_of ticket key (founds.Row doc)) legal waits
     (λ told.
-    let holds = telling_content desk.keeper.content (d.tells told) in
-    let w = waiting_stored f ticket key desk holds.0 legal eviction sure holds.1 d told waits in
+    let holds = telling_content desk.keeper.content (d.tells put told) in
+    let w = waiting_stored f ticket key desk holds.0 legal eviction sure holds.1 d put told waits in
     let same : w.0 ≡ doc = (let e = sym w.1 ∙ is holds.0 holds.1 in cc) in
     w.2 ∙ ap Some same)
     refl refl refl
-found_stands f ticket key desk now founds.Absent legal eviction sure d waits is reads =
+found_stands f ticket key desk now founds.Absent legal eviction sure d put waits is reads =
     fetched_any f ticket key (fetched_of ticket key founds.Absent) waits refl refl
     (λ told.
-    let holds = telling_content desk.keeper.content (d.tells told) in
-    let w = waiting_stored f ticket key desk holds.0 legal eviction sure holds.1 d told waits in
+    let holds = telling_content desk.keeper.content (d.tells put told) in
+    let w = waiting_stored f ticket key desk holds.0 legal eviction sure holds.1 d put told waits in
     absurd (let e = sym w.1 ∙ is holds.0 holds.1 in cc))
-found_stands f ticket key desk now (founds.Failed fault) legal eviction sure d waits is reads =
+found_stands f ticket key desk now (founds.Failed fault) legal eviction sure d put waits is reads =
     fetched_any f ticket key (fetched_of ticket key (founds.Failed fault)) waits refl refl (fresh_faults desk.read_faults fault f.events (let n = reads.0 in omega arith) d.faults)
-found_stands f ticket key desk now founds.NoMemory legal eviction sure d waits is reads =
+found_stands f ticket key desk now founds.NoMemory legal eviction sure d put waits is reads =
     fetched_any f ticket key (fetched_of ticket key founds.NoMemory) waits refl refl tt
 
 -- A read for whoever waits longest in a stripe stands.
@@ -119,8 +127,11 @@ pub read_at : (f₀ f : FrontData) (stripe : ℕ) (x : StripeData) (number : ℕ
     → desk.doubt ≡ None → DeskStands f₀ desk → IsOldest (first_waiting x.places) (Some (number, key, room)) → ((c : Content) → desk.keeper.content ≡ Some c → IsFoundIn c key.items found) → Reads desk now found
     → FetchedStands f₀ (fetched_of (ticket_of stripe number) key.items found)
 read_at f₀ f stripe x number key room desk now found front legal eviction s sure d oldest is reads =
-    found_stands f₀ (ticket_of stripe number) key.items desk now found (subst IsLegal front legal) eviction sure d
-    (oldest_waits f₀ stripe x number key room (subst (λ (g : FrontData). StripeStands g stripe x) front s) oldest) is reads
+    let there : IsLegal f₀ = subst IsLegal front legal in
+    let here : StripeStands f₀ stripe x = subst (λ (g : FrontData). StripeStands g stripe x) front s in
+    let opened : (world_of f₀).opened ≡ true = opens (world_of f₀).opened (λ shut. no_oldest (first_waiting x.places) number key room (ap (λ (l : List PlaceData). first_waiting l) (here.closed shut)) oldest) in
+    found_stands f₀ (ticket_of stripe number) key.items desk now found there eviction sure d (has_start f₀ there opened)
+    (oldest_waits f₀ stripe x number key room here oldest) is reads
 
 -- a place that isn't missing is one
 some_outcome : (o : Option Outcome) → (o ≡ None → ⊥) → (outcome : Outcome) × (o ≡ Some outcome)
@@ -131,10 +142,6 @@ some_outcome (Some outcome) has = (outcome, refl)
 pub has_place : (o : Option Outcome) (none : Bool) (places : List PlaceData) (number : ℕ) → o ≡ outcome_at places number → is_some o ≡ not none → none ≡ false → outcome_at places number ≡ None → ⊥
 has_place o none places number is test stands gone =
     let e = ap (λ (p : Option Outcome). is_some p) (sym (is ∙ gone)) ∙ test ∙ ap not stands in cc
-
-opens : (b : Bool) → (b ≡ false → ⊥) → b ≡ true
-opens true h = refl
-opens false h = absurd (h refl)
 
 -- A read is settled at a ticket that somebody waits at.
 module _ (f : FrontData) (ticket : Ticket) (key : List ℕ) (found : FoundData) (x : StripeData) (legal : IsLegal f) (value-eviction : f.config.eviction ≡ Value) (r : FetchedStands f (fetched_of ticket key found)) (s : StripeStands f ticket.stripe x) where

@@ -1,6 +1,6 @@
 -- What the desk's steps do to parts: marks, ejected values, settled reads and commits.
 use Rattle.std.proofs.Common.{◌≡◌, ◌<◌, ◌≤◌, ℕ, Bool, true, false, cond, inl, inr, List, [], ◌∷◌, refl, sym, ap, subst, ◌∙◌, arith, append-nil}
-use Rattle.std.specs.Prelude.{Option, Some, None, ◌==◌, ◌&&◌, not, nat_le, map}
+use Rattle.std.specs.Prelude.{Option, Some, None, ◌==◌, ◌&&◌, not, nat_le, map, IsSome, is_none}
 use Rattle.std.specs.Option.{option_map}
 use Rattle.std.specs.List.{AllByRecursion}
 use Rattle.std.specs.FinMap.{get}
@@ -43,7 +43,7 @@ use Rattle.ep_drill.proofs.ReadLemmas.{IsCalm, places_calm, stripe_calm}
 use Rattle.ep_drill.proofs.AskLemmas.{with_places, ticket_is}
 use Rattle.ep_drill.proofs.SetLemmas.{node_at_put}
 use Rattle.hold_stage.proofs.WaitLemmas.{and_left, and_right, not_true}
-use Rattle.ep_drill.proofs.StoreLemmas.{tells_whole, tells_on, upto_step}
+use Rattle.ep_drill.proofs.StoreLemmas.{has_start, tells_both, tells_whole, tells_on, upto_step}
 
 -- a stripe is marked
 module _ (f : FrontData) (stripe number : ℕ) (x : StripeData) (opened : (world_of f).opened ≡ true) (above-mark : marked f stripe < number) (stored : number ≤ (world_of f).persisted) (s : StripeStands f stripe x) where
@@ -269,8 +269,11 @@ module _ (f : FrontData) (desk : DeskData) (batch : BatchData) (legal : IsLegal 
   at_batch : upto (begun f) (with_event f success).events batch.to ≡ upto (begun f) f.events batch.to
   at_batch = let bounds = legal_bounds f legal in let start = bounds.start in let low = b.above in upto_step f success batch.to (omega arith) b.top
 
+  put : IsSome f.start
+  put = has_start f legal (opened_unstored f legal (let low = b.above in let top = b.top in omega arith))
+
   before : ContentStands f desk.keeper desk.stored None
-  before = subst (λ (o : Option ℕ). ContentStands f desk.keeper desk.stored o) sure d.holds
+  before = subst (λ (o : Option ℕ). ContentStands f desk.keeper desk.stored o) sure (d.holds put)
 
   -- what the store told holds the history up to the batch's number, once the batch is in it
   laid_holds : (content : Option Content) → HoldsIfTelling f content desk.stored → HoldsIfTelling f (all_committed content batch (state_for batch)) batch.to
@@ -284,11 +287,13 @@ module _ (f : FrontData) (desk : DeskData) (batch : BatchData) (legal : IsLegal 
   pub persisted_desk : DeskStands (with_event f success) (record desk { keeper = record desk.keeper { content = whole desk.keeper batch }; stored = batch.to; noted = batch.to; doubt = None })
   persisted_desk = record {
     low = omega (arith, persisted_is);
-    top = let h = high_rises f success in let t = b.top in omega arith;
-    holds = telling_on (whole desk.keeper batch) (laid_holds desk.keeper.content before);
+    top = λ _. let h = high_rises f success in let t = b.top in omega arith;
+    holds = λ _. telling_on (whole desk.keeper batch) (laid_holds desk.keeper.content before);
     persisted = sym persisted_is;
     faults = all_append (IsFaultWithin desk.read_faults) f.events (success ∷ []) d.faults (tt, tt);
-    tells = λ told. tells_whole desk.keeper.content batch (state_for batch) (d.tells (sym (same_told f success) ∙ told));
+    sure = d.sure ∙ ap (λ (o : Option ℕ). is_none o) sure;
+    tells = λ _ told. tells_whole desk.keeper.content batch (state_for batch) (d.tells put (sym (same_told f success) ∙ told));
+    both = λ _ told. tt;
   }
 
   -- the commit failed: the store holds what it held, or all of it
@@ -298,7 +303,7 @@ module _ (f : FrontData) (desk : DeskData) (batch : BatchData) (legal : IsLegal 
       record {
         low = d.low;
         top = d.top;
-        holds = (
+        holds = λ _. (
           b.low,
           b.top,
           elim doubtful.which [
@@ -308,5 +313,7 @@ module _ (f : FrontData) (desk : DeskData) (batch : BatchData) (legal : IsLegal 
         );
         persisted = d.persisted;
         faults = d.faults;
-        tells = λ told. tells_on desk.keeper keeper batch (d.tells told) doubtful;
+        sure = doubtful.doubtful;
+        tells = λ _ told. tells_on desk.keeper keeper batch (d.tells put told) doubtful;
+        both = λ _ told. tells_both desk.keeper keeper batch (d.tells put told) doubtful;
       }

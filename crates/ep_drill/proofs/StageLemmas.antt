@@ -1,4 +1,5 @@
 -- What the store's side notes is legal, its own, and touches what it holds; and what it leaves stands.
+use Rattle.hold_stage.proofs.RisesLemmas.{opened_unstored}
 use Rattle.std.proofs.Common.{◌≡◌, ℕ, ◌+◌, false, List, [], ◌∷◌, ◌++◌, take, add-one, refl, sym, ap, subst, ◌∙◌, arith}
 use Rattle.std.specs.Prelude.{Option, Some, slice_get}
 use Rattle.std.specs.FinMap.{insert}
@@ -24,7 +25,7 @@ use Rattle.flat_parts.specs.declared.data.QueueData.{QueueData}
 use Rattle.ep_drill.specs.declared.store.Flushed.TheVariants as flushes
 use Rattle.ep_drill.specs.Stands.{QueueStands, DeskStands, BatchStands}
 use Rattle.ep_drill.specs.StoreSide.{IsTaken, IsFlushed, whole}
-use Rattle.ep_drill.proofs.StoreLemmas.{batch_taken}
+use Rattle.ep_drill.proofs.StoreLemmas.{batch_taken, has_start}
 use Rattle.ep_drill.proofs.PartLemmas.{may_persist, persisted_queue, persisted_desk, doubted_desk}
 
 -- one more of a list's elements
@@ -50,11 +51,13 @@ pub taken_stands : (f₀ f : FrontData) (desk : DeskData) (high persisted top mo
     → top ≡ q.high → most ≡ q.maxcas → empty ≡ empty_batch top most → filled.to ≡ empty.to → filled.maxcas ≡ empty.maxcas → ((docs : Docs) → laid filled.rows docs ≡ laid_on (laid empty.rows docs) q.items)
     → AreDistinct filled.rows → IsTaken f₀ desk.stored (Some filled)
 taken_stands f₀ f desk high persisted top most q empty filled front d legal s high-is persisted-is differs top-is most-is begins to maxcas laid-is distinct =
-    let d-low = d.low in let d-top = d.top in
+    let d-low = d.low in
     let stored-is = ap (λ (g : FrontData). (world_of g).persisted) front in
     let high-of = ap (λ (g : FrontData). (world_of g).high) front in
     let bounds = (legal_bounds f legal).stored in
     let all = s.high in let known = s.persisted in
+    let there : IsLegal f₀ = subst IsLegal front legal in
+    let d-top = d.top (has_start f₀ there (opened_unstored f₀ there (omega arith))) in
     let whole : filled.to ≡ q.high = to ∙ ap (λ (b : BatchData). b.to) begins ∙ top-is in
     let lays : (docs : Docs) → laid filled.rows docs ≡ laid_on docs q.items = λ docs. laid-is docs ∙ ap (λ (b : BatchData). laid_on (laid b.rows docs) q.items) begins in (
       subst (λ (g : FrontData). BatchStands g desk.stored filled) front

@@ -12,12 +12,14 @@ use Rattle.ep_model.specs.declared.data.EventData.TheVariants as events
 use Rattle.ep_model.specs.declared.data.FrontData.{FrontData}
 use Rattle.ep_model.specs.World.{Doc, Docs, World}
 use Rattle.ep_model.specs.History.{step, upto}
-use Rattle.ep_model.specs.Front.{begun, started, world_of, with_event}
-use Rattle.ep_model.specs.Legal.{IsBelow, IsNoFault, HasAsked, May, IsLegal}
+use Rattle.ep_model.specs.Front.{begun, started, world_of, with_event, with_events}
+use Rattle.ep_model.specs.declared.data.StartData.{StartData}
+use Rattle.ep_model.specs.Legal.{IsBelow, IsNoFault, HasAsked, May, AreLegal, IsLegal}
 use Rattle.hold_stage.specs.Touches.{is_desks}
 use Rattle.ep_model.specs.Mutations.{mutation_of, mutations, above, laid_on}
 use Rattle.hold_stage.specs.Waits.{is_on, puts_on, is_ask, is_waiting, waits_after}
-use Rattle.hold_stage.proofs.LaterLemmas.{same_told, world_step, all_append}
+use Rattle.hold_stage.proofs.LaterLemmas.{same_told, world_step, all_append, more_events}
+use Rattle.hold_stage.proofs.GrowsLemmas.{nothing_more}
 use Rattle.hold_stage.proofs.LegalLemmas.{has_more, one_asker}
 use Rattle.hold_stage.proofs.BoundLemmas.{legal_bounds, all_in, waiting_step}
 use Rattle.hold_stage.proofs.MutationLemmas.{upto_append}
@@ -40,6 +42,36 @@ use Rattle.ep_drill.specs.Stands.{QueueStands, IsAbsent, IsFaultWithin, HoldsAt,
 use Rattle.hold_stage.proofs.WaitLemmas.{and_left, and_right, not_true, docs_apart, waiting_asked, waiting_low}
 use Rattle.hold_stage.proofs.HistoryLemmas.{batch_law}
 
+none_put : (start : Option StartData) → start ≡ None → IsSome start → ⊥
+none_put None is h = cc
+none_put (Some s) is h = cc
+
+-- without a start a vBucket doesn't open
+stays_shut : (f : FrontData) (event : EventData) → f.start ≡ None → (world_of f).opened ≡ false → May f event → (world_of (with_event f event)).opened ≡ false
+unfolding May
+stays_shut f (events.Called caller call now reply value) bare shut may = absurd (let h = may.opened in cc)
+stays_shut f (events.Refused caller call now cause) bare shut may = ap (λ (w : World). w.opened) (world_step f (events.Refused caller call now cause)) ∙ shut
+stays_shut f (events.Expired key now) bare shut may = absurd (let h = may.serving.opened in cc)
+stays_shut f (events.Persisted number) bare shut may = absurd (let h = may.opened in cc)
+stays_shut f (events.Marked stripe number) bare shut may = absurd (let h = may.opened in cc)
+stays_shut f (events.Asked ticket caller call) bare shut may = absurd (let h = may.serving.opened in cc)
+stays_shut f (events.ReadFailed ticket fault) bare shut may = ap (λ (w : World). w.opened) (world_step f (events.ReadFailed ticket fault)) ∙ shut
+stays_shut f events.Opened bare shut may = absurd (none_put f.start bare may.put)
+
+shut_along : (f : FrontData) (list : List EventData) → f.start ≡ None → (world_of f).opened ≡ false → AreLegal f list → (world_of (with_events f list)).opened ≡ false
+unfolding AreLegal
+shut_along f [] bare shut legal = ap (λ (g : FrontData). (world_of g).opened) (nothing_more f) ∙ shut
+shut_along f (event ∷ list) bare shut legal =
+    ap (λ (g : FrontData). (world_of g).opened) (sym (more_events f event list)) ∙ shut_along (with_event f event) list bare (stays_shut f event bare shut legal.0) legal.1
+
+-- a vBucket that has opened has a start
+pub has_start : (f : FrontData) → IsLegal f → (world_of f).opened ≡ true → IsSome f.start
+unfolding IsLegal
+has_start f legal opened = elim f.start as (λ s. f.start ≡ s → IsSome s) [
+  | None ↦ λ bare. absurd (let h : (world_of f).opened ≡ false = shut_along (record f { events = [] }) f.events bare refl legal in let t = sym h ∙ opened in cc)
+  | Some s ↦ λ is. refl
+] refl
+
 -- a store that tells goes on telling through a commit
 pub tells_whole : (content : Option Content) (batch : BatchData) (state : StoreState) → IsSome content → IsSome (all_committed content batch state)
 tells_whole None batch state h = absurd (cc)
@@ -49,6 +81,13 @@ pub tells_on : (old now : KeeperData) (batch : BatchData) → IsSome old.content
 tells_on old now batch h doubtful = elim doubtful.which [
   | inl x ↦ subst (λ (o : Option Content). IsSome o) (sym x.0) h
   | inr y ↦ subst (λ (o : Option Content). IsSome o) (sym y.0) (tells_whole old.content batch (state_for batch) h)
+]
+
+-- and so does the other of two that may be the true one
+pub tells_both : (old now : KeeperData) (batch : BatchData) → IsSome old.content → IsDoubtful old (whole old batch) now → IsSome now.second
+tells_both old now batch h doubtful = elim doubtful.which [
+  | inl x ↦ subst (λ (o : Option Content). IsSome o) (sym x.1) (tells_whole old.content batch (state_for batch) h)
+  | inr y ↦ subst (λ (o : Option Content). IsSome o) (sym y.1) h
 ]
 
 -- what was there at a number of a front is there at it later
@@ -107,11 +146,13 @@ desk_keeps_standing f event desk legal test d =
     let low = d.low in let start = b.start in
     record {
       low = omega arith;
-      top = let h = high_rises f event in let t = d.top in omega arith;
-      holds = content_later f event desk.keeper desk.stored desk.doubt (omega arith) d.top d.holds;
+      top = λ put. let h = high_rises f event in let t = d.top put in omega arith;
+      holds = λ put. content_later f event desk.keeper desk.stored desk.doubt (omega arith) (d.top put) (d.holds put);
       persisted = d.persisted ∙ sym p;
       faults = all_append (IsFaultWithin desk.read_faults) f.events (event ∷ []) d.faults (within_same desk.read_faults event test, tt);
-      tells = λ told. d.tells (sym (same_told f event) ∙ told);
+      sure = d.sure;
+      tells = λ put told. d.tells put (sym (same_told f event) ∙ told);
+      both = λ put told. d.both put (sym (same_told f event) ∙ told);
     }
 
 -- more faults than were told are enough
@@ -138,10 +179,12 @@ pub more_faults : (f : FrontData) (desk : DeskData) → DeskStands f desk → De
 more_faults f desk d = record {
   low = d.low;
   top = d.top;
-  holds = faults_hold f desk.keeper desk.stored desk.doubt d.holds;
+  holds = λ put. faults_hold f desk.keeper desk.stored desk.doubt (d.holds put);
   persisted = d.persisted;
   faults = all_within_more desk.read_faults (desk.read_faults + 1) f.events (omega arith) d.faults;
+  sure = d.sure;
   tells = d.tells;
+  both = d.both;
 }
 
 -- the desk tells of a failed read
@@ -153,11 +196,13 @@ desk_tells f ticket fault desk legal some within d =
     let low = d.low in let start = b.start in
     record {
       low = omega arith;
-      top = let h = high_rises f event in let t = d.top in omega arith;
-      holds = content_later f event desk.keeper desk.stored desk.doubt (omega arith) d.top d.holds;
+      top = λ put. let h = high_rises f event in let t = d.top put in omega arith;
+      holds = λ put. content_later f event desk.keeper desk.stored desk.doubt (omega arith) (d.top put) (d.holds put);
       persisted = d.persisted ∙ sym p;
       faults = all_append (IsFaultWithin desk.read_faults) f.events (event ∷ []) d.faults ((some, within), tt);
-      tells = λ told. d.tells (sym (same_told f event) ∙ told);
+      sure = d.sure;
+      tells = λ put told. d.tells put (sym (same_told f event) ∙ told);
+      both = λ put told. d.both put (sym (same_told f event) ∙ told);
     }
 
 -- so does a batch, over the same store, where the event leaves what is persisted
@@ -241,13 +286,13 @@ sure_holds f keeper content stored doubt sure told h =
     subst (λ (o : Option Content). HoldsIfTelling f o stored) told here
 
 -- what the store holds of a key that waits is its document
-pub waiting_stored : (f : FrontData) (ticket : Ticket) (key : List ℕ) (desk : DeskData) (content : Content) → IsLegal f → f.config.eviction ≡ Value → desk.doubt ≡ None → desk.keeper.content ≡ Some content → DeskStands f desk → (world_of f).told ≡ true → is_waiting f ticket key ≡ true
+pub waiting_stored : (f : FrontData) (ticket : Ticket) (key : List ℕ) (desk : DeskData) (content : Content) → IsLegal f → f.config.eviction ≡ Value → desk.doubt ≡ None → desk.keeper.content ≡ Some content → DeskStands f desk → IsSome f.start → (world_of f).told ≡ true → is_waiting f ticket key ≡ true
     → (doc : Doc) × (get content.docs key ≡ Some doc) × (get (world_of f).docs key ≡ Some doc) × (doc.deleted ≡ false)
-waiting_stored f ticket key desk content legal eviction sure holds d told is =
+waiting_stored f ticket key desk content legal eviction sure holds d put told is =
     let l = waiting_low f ticket key told legal eviction is in
     let b = legal_bounds f legal in
     let m = b.marked ticket.stripe in let low = l.low in let s = d.low in
-    (l.doc, ap (λ (docs : Docs). get docs key) ((sure_holds f desk.keeper content desk.stored desk.doubt sure holds d.holds).docs told) ∙ doc_upto (begun f) f.events desk.stored key l.doc l.found (omega arith), l.found, l.stays)
+    (l.doc, ap (λ (docs : Docs). get docs key) ((sure_holds f desk.keeper content desk.stored desk.doubt sure holds (d.holds put)).docs told) ∙ doc_upto (begun f) f.events desk.stored key l.doc l.found (omega arith), l.found, l.stays)
 
 -- What is to be stored makes a batch that stands.
 pub batch_taken : (f : FrontData) (q : QueueData) (batch : BatchData) (stored : ℕ) → IsLegal f → QueueStands f q → (world_of f).persisted ≤ stored → stored ≤ (world_of f).high → (world_of f).persisted < q.high → batch.to ≡ q.high → batch.maxcas ≡ q.maxcas

@@ -1,5 +1,5 @@
 -- What the parts are to a history.
-use Rattle.std.specs.Prelude.{◌≡◌, ◌⊎◌, ℕ, ◌≤◌, ◌<◌, true, false, nat_lt, List, [], ◌∷◌, ◌++◌, Option, Some, None, IsSome, IfSome}
+use Rattle.std.specs.Prelude.{◌≡◌, ◌⊎◌, ℕ, ◌≤◌, ◌<◌, true, false, nat_lt, List, [], ◌∷◌, ◌++◌, Option, Some, None, IsSome, IfSome, is_none}
 use Rattle.std.specs.List.{AllByRecursion}
 use Rattle.std.specs.FinMap as map
 use Rattle.ep_model.specs.declared.event.Ticket.{Ticket}
@@ -131,15 +131,23 @@ ContentStands f keeper stored (Some doubt) =
     (stored ≤ doubt) × (doubt ≤ (world_of f).high)
     × ((HoldsIfTelling f keeper.content stored × HoldsIfTelling f keeper.second doubt) ⊎ (HoldsIfTelling f keeper.content doubt × HoldsIfTelling f keeper.second stored))
 
--- A desk stands for a history: its store holds what the history had put at a number that is not below the persisted one. A
--- start is told by a store that tells what it holds.
+-- A desk stands for a history.
+-- `low`: its store is known to hold no less than is told to be stored;
+-- `top`, `holds`: once there is a start, no more than there is, and that is what the history had put;
+-- `persisted`: what was noted is what is told to be stored;
+-- `faults`: each failed read that was told is among those that were counted;
+-- `sure`: the store is sure of what it holds exactly where no number is in doubt;
+-- `tells`, `both`: once there is a start, a told one is told by a store that tells what it holds, and both contents that may be
+-- the true one where that is in doubt.
 pub record DeskStands (f : FrontData) (desk : DeskData) : Type 0 where
   pub low : (world_of f).persisted ≤ desk.stored
-  pub top : desk.stored ≤ (world_of f).high
-  pub holds : ContentStands f desk.keeper desk.stored desk.doubt
+  pub top : IsSome f.start → desk.stored ≤ (world_of f).high
+  pub holds : IsSome f.start → ContentStands f desk.keeper desk.stored desk.doubt
   pub persisted : desk.noted ≡ (world_of f).persisted
   pub faults : AllByRecursion (IsFaultWithin desk.read_faults) f.events
-  pub tells : (world_of f).told ≡ true → IsSome desk.keeper.content
+  pub sure : desk.keeper.sure ≡ is_none desk.doubt
+  pub tells : IsSome f.start → (world_of f).told ≡ true → IsSome desk.keeper.content
+  pub both : IsSome f.start → (world_of f).told ≡ true → IfSome desk.doubt (λ _. IsSome desk.keeper.second)
 
 -- A batch stands between its taking and its commit: laid over what the store holds it gives what the history had put at the
 -- batch's number, as far as documents are known.

@@ -1,5 +1,5 @@
 -- What each kind of work at a vBucket's bench answers, and what it makes of the world and of the bench.
-use Rattle.std.specs.Prelude.{◌≡◌, ℕ, Bool, ◌||◌, List, Option, Some, None, slice_get, slice_set, is_some}
+use Rattle.std.specs.Prelude.{◌≡◌, ◌<◌, ℕ, Bool, ◌||◌, List, Option, Some, None, IfSome, slice_get, slice_set, is_some}
 use Rattle.ep_model.specs.declared.config.Config.{Config}
 use Rattle.ep_model.specs.declared.data.EventData.{EventData}
 use Rattle.ep_model.specs.declared.data.EventData.TheVariants as events
@@ -36,7 +36,7 @@ use Rattle.ep_drill.specs.Core.{Moved, count_of}
 abbrev pub IsLeft : WorldData Part → WorldData Part → BenchData → BenchData → Type 0
 IsLeft old new bench after = (new ≡ old) × (after ≡ bench)
 
--- A batch was taken, in place of one that wasn't committed, or all is stored and there is none.
+-- A batch was taken that goes beyond what is stored, in place of one that wasn't committed, or all is stored and there is none.
 pub record WasTaken (config : Config) (vb number : ℕ) (old new : WorldData Part) (bench after : BenchData) : Type 0 where
   pub sure : bench.desk.doubt ≡ None
   pub batch : Option BatchData
@@ -44,6 +44,7 @@ pub record WasTaken (config : Config) (vb number : ℕ) (old new : WorldData Par
   pub moved : Moved config vb None old new
   pub kept : (p : PartName) → part_in new vb p ≡ part_in old vb p
   pub taken : IsTaken (front_in old vb) bench.desk.stored batch
+  pub above : IfSome batch (λ b. bench.desk.stored < b.to)
   pub count : number ≡ count_of batch
 
 -- Memory was wanting for a batch of what isn't stored. One that wasn't committed is dropped.

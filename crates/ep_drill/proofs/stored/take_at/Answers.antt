@@ -63,7 +63,7 @@ returns-in-Ok-Some-clause-taken g c =
     let t : WasTaken c.args.config.now c.args.vb c.unwrap_or.result c.args.world.now c.take_batch-taken.new.stage.world.now (bench_data c.args.bench.now) (bench_data (record c.args.bench.now { batch = Some c.in-Ok-Some.batch })) =
     was_taken c.args.config.now c.args.world.now c.stage-stage.result.world.now c.take_batch-taken.new.stage.world.now c.args.vb c.stage-stage.result.vb c.take_batch-taken.new.stage.vb c.requires.ready c.requires.vb c.stage-stage.ensures.world c.stage-stage.ensures.vb
     c.take_batch-taken.ensures.stays.fixed c.take_batch-taken.ensures.home c.take_batch-taken.ensures.front
-    (bench_data c.args.bench.now) (bench_data (record c.args.bench.now { batch = Some c.in-Ok-Some.batch })) sure c.take_batch-taken.ensures.parts c.unwrap_or.result c.in-Ok-Some.field-0 (Some c.in-Ok-Some.batch) c.in-Ok-Some.field-0-is (c.in-Ok-Some.ensures.taken c.args.bench.now.desk stands) rows refl in
+    (bench_data c.args.bench.now) (bench_data (record c.args.bench.now { batch = Some c.in-Ok-Some.batch })) sure c.take_batch-taken.ensures.parts c.unwrap_or.result c.in-Ok-Some.field-0 (Some c.in-Ok-Some.batch) c.in-Ok-Some.field-0-is (c.in-Ok-Some.ensures.taken c.args.bench.now.desk stands) rows refl c.requires.bench in
     search rules
 
 -- src/stored.rt
@@ -75,7 +75,7 @@ returns-in-Ok-None-clause-taken g c =
     let t : WasTaken c.args.config.now c.args.vb 0 c.args.world.now c.take_batch-taken.new.stage.world.now (bench_data c.args.bench.now) (bench_data (record c.args.bench.now { batch = None })) =
     was_taken c.args.config.now c.args.world.now c.stage-stage.result.world.now c.take_batch-taken.new.stage.world.now c.args.vb c.stage-stage.result.vb c.take_batch-taken.new.stage.vb c.requires.ready c.requires.vb c.stage-stage.ensures.world c.stage-stage.ensures.vb
     c.take_batch-taken.ensures.stays.fixed c.take_batch-taken.ensures.home c.take_batch-taken.ensures.front
-    (bench_data c.args.bench.now) (bench_data (record c.args.bench.now { batch = None })) sure c.take_batch-taken.ensures.parts 0 c.in-Ok-None.field-0 None c.in-Ok-None.field-0-is (c.in-Ok-None.ensures.taken c.args.bench.now.desk stands) refl refl in
+    (bench_data c.args.bench.now) (bench_data (record c.args.bench.now { batch = None })) sure c.take_batch-taken.ensures.parts 0 c.in-Ok-None.field-0 None c.in-Ok-None.field-0-is (c.in-Ok-None.ensures.taken c.args.bench.now.desk stands) refl refl c.requires.bench in
     search rules
 
 -- src/stored.rt
