@@ -40,7 +40,7 @@ queued_items most item c =
           ∙ ap (λ (l : List Item). all_items c.closed ++ (l ++ item ∷ [])) (sym (but_none item.0 c.last.items none))
     ] refl
 
-above_append : (number : ℕ) (xs ys : List Item) → above number (xs ++ ys) ≡ above number xs ++ above number ys
+pub above_append : (number : ℕ) (xs ys : List Item) → above number (xs ++ ys) ≡ above number xs ++ above number ys
 above_append number xs ys = filter-append (λ (p : Item). nat_lt number p.1.seqno) xs ys
 
 blocks_append : (xs ys : List Item) → item_blocks (xs ++ ys) ≡ item_blocks xs + item_blocks ys
@@ -56,7 +56,7 @@ high_test : (number n : ℕ) → number < n → nat_lt number n ≡ true
 high_test number n lower = grind (arith, nat_tests)
 
 -- what every cursor has passed is stored
-above_passed : (number : ℕ) (q : QueueData) (items : List Item) → least_cursor q ≤ number → AllByRecursion (IsPassed q) items → above number items ≡ []
+pub above_passed : (number : ℕ) (q : QueueData) (items : List Item) → least_cursor q ≤ number → AllByRecursion (IsPassed q) items → above number items ≡ []
 above_passed number q [] le h = refl
 above_passed number q (item ∷ items) le h =
     ap (λ b. cond b (item ∷ above number items) (above number items)) (low_test number item.1.seqno (let p = h.0 in omega arith))

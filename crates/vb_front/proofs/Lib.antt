@@ -14,3 +14,4 @@ pub mod PutLemmas
 pub mod QueueLemmas
 pub mod KeptLemmas
 pub mod EntryLemmas
+pub mod BatchLemmas

@@ -9,3 +9,4 @@ pub mod Controls
 pub mod Desks
 pub mod Laws
 pub mod Queues
+pub mod Batches

@@ -4,6 +4,7 @@ ghost use Rattle.vb_front.specs.Queues.{QueuesTakeMutations, QueuesTakeCalls, Qu
 ghost use Rattle.vb_front.specs.Queues.{QueuesStandBehindRefusals, QueuesSetStates, QueuesOpen, QueuesExpel};
 ghost use Rattle.vb_front.specs.Queues.{QueuesStore, QueuesAreRead, QueuesAreReadAgain, KeptIsMeasured, ShortIsOverfull};
 ghost use Rattle.vb_front.specs.Queues.{ShortIsQuota};
+ghost use Rattle.vb_front.specs.Batches.{QueuesHoldBatches, QueuesHoldNumbers};
 
 /// A queue that took what a call or another event put stands behind that event.
 pub fn queues_take_mutations()
@@ -36,4 +37,10 @@ pub fn queues_measure_what_is_kept()
     ensures kept { KeptIsMeasured }
     ensures short { ShortIsOverfull }
     ensures quota { ShortIsQuota }
+{}
+
+/// Whoever reads a queue on from a number that isn't below what is stored meets the last mutation of each key behind it.
+pub fn queues_hold_batches()
+    ensures batches { QueuesHoldBatches }
+    ensures numbers { QueuesHoldNumbers }
 {}
