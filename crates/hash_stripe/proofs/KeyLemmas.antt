@@ -1,5 +1,5 @@
 -- What calls leave under each key.
-use Rattle.std.proofs.Common.{◌≡◌, ◌≢◌, inl, inr, ◌⊎◌, ℕ, suc, zero, ◌+◌, ◌<◌, ◌≤◌, ◌∙◌, Bool, true, false, cond, ◌||◌, List, [], ◌∷◌, length, refl, sym, ap, subst, arith}
+use Rattle.std.proofs.Common.{◌≡◌, ◌≢◌, inl, inr, ◌⊎◌, ℕ, suc, zero, ◌<◌, ◌≤◌, ◌∙◌, true, false, cond, ◌||◌, List, [], ◌∷◌, length, refl, sym, ap, subst, arith}
 use Rattle.std.proofs.Math.ListN.{set}
 use Rattle.std.proofs.lemmas.List.{get_or-set_same, get_or-set_other, length-set, length-map}
 use Rattle.std.proofs.lemmas.Slice.Eq.{bytes_eq-Decides}
@@ -9,10 +9,11 @@ use Rattle.std.specs.Str.{bytes_eq}
 use Rattle.ep_model.specs.declared.config.Eviction.{Eviction}
 use Rattle.hash_stripe.specs.Nodes.{NodeData, Slot, at, node_blocks, is_keyed, slot_of, node_in, node_at, first_empty, is_full_eviction, eject_slot, eject_at, Ejects, EjectsOthers, IsLeft, Restores, or_else, with_slot, placed, heated, cooled}
 use Rattle.hash_stripe.specs.Stripes.{StripeData, has_key, AreApart, IsStripe, Fits, at_slot, at_key}
-use Rattle.hash_stripe.specs.Laws.{IsChanged, IsRestored}
+use Rattle.hash_stripe.specs.Laws.{IsChanged, IsRestored, HasSlot}
 use Rattle.hash_stripe.proofs.RoomLemmas.{first-slot, none-has, keyed-has, apart-key, IsNext, next-facts, ejected-keyed, empty-slot, no-empty, absent-room}
 use Rattle.hash_stripe.proofs.StripeLemmas.{has-set, KeepsKey, apart-changed, apart-put, keyed-slots, stripe-ejects, cooled-has, cooled-apart}
 use Rattle.hash_stripe.proofs.LeftLemmas.{left-on}
+use Rattle.hash_stripe.proofs.CallLemmas.{key-same}
 
 -- where a key has a node: in some slot, or in none
 data Stands (key : List ℕ) (slots : List Slot) : Type 0 where
@@ -52,6 +53,32 @@ node-nowhere key slots none =
       | stands-at j h keyed there ↦ absurd (let some = keyed-has key slots j h keyed in cc)
       | nowhere gone there ↦ there
     ]
+
+-- nodes in slots are nodes of keys
+some-inside : (slots : List Slot) (i : ℕ) (node : NodeData) → at slots i ≡ Some node → i < length slots
+some-inside [] i node is = absurd (cc)
+some-inside (s ∷ slots) zero node is = omega arith
+some-inside (s ∷ slots) (suc i) node is = let rest = some-inside slots i node is in omega arith
+
+own-keyed : (s : Slot) (node : NodeData) → s ≡ Some node → is_keyed node.key s ≡ true
+own-keyed s node is = ap (is_keyed node.key) is ∙ (bytes_eq-Decides node.key node.key).1 refl
+
+pub slot-keyed : (s : StripeData) (i : ℕ) (node : NodeData) → IsStripe s → at s.slots i ≡ Some node → node_at s.slots node.key ≡ Some node
+slot-keyed s i node stripe is =
+    node-there node.key s.slots i stripe.apart (some-inside s.slots i node is) (own-keyed (at s.slots i) node is) ∙ is
+
+pub key-slot : (slots : List Slot) (key : List ℕ) (node : NodeData) → node_at slots key ≡ Some node → HasSlot slots key node
+key-slot slots key node is =
+    elim (stands key slots) [
+      | stands-at i h keyed there ↦ record { slot = i; within = h; there = sym there ∙ is; keyed = key-same key slots node is }
+      | nowhere none there ↦ absurd (cc)
+    ]
+
+pub slots-apart : (s : StripeData) (i j : ℕ) (node twin : NodeData) → IsStripe s → at s.slots i ≡ Some node → at s.slots j ≡ Some twin → node.key ≡ twin.key → i ≡ j
+slots-apart s i j node twin stripe is-i is-j same =
+    only-at node.key s.slots i j stripe.apart (some-inside s.slots i node is-i) (some-inside s.slots j twin is-j)
+    (own-keyed (at s.slots i) node is-i)
+    (subst (λ (key : List ℕ). is_keyed key (at s.slots j) ≡ true) (sym same) (own-keyed (at s.slots j) twin is-j))
 
 -- what is under a key after one slot is changed
 other-slot : (key : List ℕ) (slots : List Slot) (i : ℕ) (x : Slot) → AreApart (set slots i x) → i < length slots → is_keyed key (at slots i) ≡ false → is_keyed key x ≡ false → node_at (set slots i x) key ≡ node_at slots key

@@ -1,5 +1,5 @@
 -- What calls leave of each slot, and under each key.
-use Rattle.std.specs.Prelude.{ℕ, ◌≡◌, ◌≢◌, ◌≤◌, List, length, map, Some}
+use Rattle.std.specs.Prelude.{ℕ, ◌≡◌, ◌≢◌, ◌<◌, ◌≤◌, List, length, map, Some}
 use Rattle.ep_model.specs.declared.config.Eviction.{Eviction}
 use Rattle.hash_stripe.specs.Nodes.{NodeData, Slot, at, node_at, node_blocks, EjectsOthers, IsLeft, Restores, placed, eject_slot, heated, cooled}
 use Rattle.hash_stripe.specs.Stripes.{StripeData, IsStripe, Fits, at_key}
@@ -50,3 +50,26 @@ DroppingIsKeywise =
 -- All nodes are one older.
 abbrev pub CoolingIsKeywise : Type 0
 CoolingIsKeywise = (s : StripeData) (key : List ℕ) → IsStripe s → node_at (map cooled s.slots) key ≡ cooled (node_at s.slots key)
+
+-- The node in a slot is its key's.
+abbrev pub SlotsAreKeywise : Type 0
+SlotsAreKeywise =
+    (s : StripeData) (slot : ℕ) (node : NodeData) → IsStripe s → at s.slots slot ≡ Some node
+    → node_at s.slots node.key ≡ Some node
+
+-- this node of a key stands in a slot
+pub record HasSlot (slots : List Slot) (key : List ℕ) (node : NodeData) : Type 0 where
+  pub slot : ℕ
+  pub within : slot < length slots
+  pub there : at slots slot ≡ Some node
+  pub keyed : node.key ≡ key
+
+-- Each key's node stands in some slot.
+abbrev pub KeysHaveSlots : Type 0
+KeysHaveSlots = (slots : List Slot) (key : List ℕ) (node : NodeData) → node_at slots key ≡ Some node → HasSlot slots key node
+
+-- Nodes of one key stand in one slot.
+abbrev pub SlotsAreApart : Type 0
+SlotsAreApart =
+    (s : StripeData) (one other : ℕ) (node twin : NodeData) → IsStripe s → at s.slots one ≡ Some node → at s.slots other ≡ Some twin
+    → node.key ≡ twin.key → one ≡ other

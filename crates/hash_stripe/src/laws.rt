@@ -1,5 +1,5 @@
 //! The laws of what calls leave. The functions do nothing: their contracts are the laws, over all stripes.
-ghost use Rattle.hash_stripe.specs.Laws.{EjectingIsSlotwise, EjectingIsKeywise, PlacingIsKeywise, RestoringIsKeywise, HeatingIsKeywise, DroppingIsKeywise, CoolingIsKeywise};
+ghost use Rattle.hash_stripe.specs.Laws.{EjectingIsSlotwise, EjectingIsKeywise, PlacingIsKeywise, RestoringIsKeywise, HeatingIsKeywise, DroppingIsKeywise, CoolingIsKeywise, SlotsAreKeywise, KeysHaveSlots, SlotsAreApart};
 
 /// Ejecting changes no metadata that stays, no document of the key that room is made for, and nothing that isn't stored:
 /// each slot is as it was, or has what is left of a clean document of another key.
@@ -16,4 +16,12 @@ pub fn calls_are_keywise()
     ensures heating { HeatingIsKeywise }
     ensures dropping { DroppingIsKeywise }
     ensures cooling { CoolingIsKeywise }
+{}
+
+/// Slots and keys tell of the same nodes: the node in a slot is its key's, each key's node stands in some slot, and in no
+/// second one.
+pub fn slots_are_keywise()
+    ensures nodes { SlotsAreKeywise }
+    ensures keys { KeysHaveSlots }
+    ensures apart { SlotsAreApart }
 {}
