@@ -3,11 +3,13 @@ use Rattle.std.proofs.Common.{◌≡◌, ◌<◌, ◌≤◌, ℕ, suc, zero, ◌
 use Rattle.std.specs.Prelude.{Option, Some, None}
 use Rattle.std.specs.Option.{is_some}
 use Rattle.std.specs.Str.{bytes_eq}
+use Rattle.std.proofs.lemmas.List.{length-set}
 use Rattle.std.proofs.lemmas.Bool.{and_parts, ltb-true, ltb-false, leb-true, leb-false}
 use Rattle.ep_model.specs.World.{blocks}
 use Rattle.ep_model.specs.declared.config.Eviction.{Eviction}
 use Rattle.hash_stripe.specs.Nodes.{NodeData, Slot, at, value_blocks, node_blocks, slot_blocks, is_keyed, others_blocks, is_clean, is_full_eviction, is_ejectable, is_ejectable_slot, pinned_blocks, slot_pinned, others_pinned, eject_slot, eject_at, is_victim, first_of_age, or_else, victim, Ejects, EjectsOthers}
 use Rattle.hash_stripe.specs.Stripes.{StripeData, IsNode, IsSlot, AreSlots, IsStripe}
+use Rattle.hash_stripe.specs.Laws.{KeepsPinned}
 use Rattle.hash_stripe.proofs.ChainLemmas.{sum_of-set}
 use Rattle.hash_stripe.proofs.RoomLemmas.{IsNext, next-facts, passed, ejected-keyed}
 use Rattle.hash_stripe.proofs.StripeLemmas.{either-false, stripe-ejects}
@@ -48,6 +50,17 @@ pinned-chain : (e : Eviction) (mark : ℕ) (key : List ℕ) (need n : ℕ) (old 
 pinned-chain e mark key need zero old new same = ap (others_pinned e mark key) same
 pinned-chain e mark key need (suc n) old new chain =
     pinned-chain e mark key need n (eject_at e old chain.0) new chain.3 ∙ pinned-step e mark key old chain.0 (next-facts mark key old chain.0 chain.1)
+
+length-chain : (e : Eviction) (mark : ℕ) (key : List ℕ) (need n : ℕ) (old new : List Slot) → Ejects e mark key need n old new → length new ≡ length old
+length-chain e mark key need zero old new same = ap length same
+length-chain e mark key need (suc n) old new chain =
+    length-chain e mark key need n (eject_at e old chain.0) new chain.3 ∙ length-set old chain.0 (eject_slot e (at old chain.0))
+
+pub ejecting-pinned : (e : Eviction) (mark : ℕ) (key : List ℕ) (need : ℕ) (old new : List Slot) → EjectsOthers e mark key need old new → KeepsPinned e mark key old new
+ejecting-pinned e mark key need old new ejects = record {
+  slots = length-chain e mark key need ejects.count old new ejects.chain;
+  pinned = pinned-chain e mark key need ejects.count old new ejects.chain;
+}
 
 -- what is pinned is a part of what is taken
 pinned-within : (e : Eviction) (mark : ℕ) (s : Slot) → slot_pinned e mark s ≤ slot_blocks s
@@ -123,6 +136,12 @@ no-victim mark key slots e k h age few =
     (passed (is_victim mark key 1) slots 0 one.0 k h)
     (passed (is_victim mark key 2) slots 0 two.0 k h)
     (passed (is_victim mark key 3) slots 0 three.0 k h)
+
+pub last-pinned : (s : StripeData) (key : List ℕ) (need : ℕ) (new : List Slot) → IsStripe s → EjectsOthers s.eviction s.mark key need s.slots new → victim s.mark key new ≡ None → others_blocks key new ≡ others_pinned s.eviction s.mark key s.slots
+last-pinned s key need new stripe ejects last =
+    let after = stripe-ejects s key need ejects.count new stripe ejects.chain in
+    sym (all-stay s.index s.stripes s.eviction s.mark key new after.0.nodes (no-victim s.mark key new last))
+    ∙ pinned-chain s.eviction s.mark key need ejects.count s.slots new ejects.chain
 
 -- room was made: what is pinned leaves enough
 pub room-made : (s : StripeData) (key : List ℕ) (need n : ℕ) (new : List Slot) → IsStripe s → Ejects s.eviction s.mark key need n s.slots new → true ≡ nat_le (others_blocks key new + need) (length new) → false ≡ nat_lt (length s.slots) (others_pinned s.eviction s.mark key s.slots + need)

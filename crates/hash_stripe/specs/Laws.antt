@@ -1,7 +1,7 @@
 -- What calls leave of each slot, and under each key.
-use Rattle.std.specs.Prelude.{ℕ, ◌≡◌, ◌≢◌, ◌<◌, ◌≤◌, List, length, map, Some}
+use Rattle.std.specs.Prelude.{ℕ, ◌≡◌, ◌≢◌, ◌<◌, ◌≤◌, List, length, map, Some, None}
 use Rattle.ep_model.specs.declared.config.Eviction.{Eviction}
-use Rattle.hash_stripe.specs.Nodes.{NodeData, Slot, at, node_at, node_blocks, EjectsOthers, IsLeft, Restores, placed, eject_slot, heated, cooled}
+use Rattle.hash_stripe.specs.Nodes.{NodeData, Slot, at, node_at, node_blocks, others_blocks, others_pinned, victim, EjectsOthers, IsLeft, Restores, placed, eject_slot, heated, cooled}
 use Rattle.hash_stripe.specs.Stripes.{StripeData, IsStripe, Fits, at_key}
 
 -- Ejecting for a key leaves each slot as it was, but those out of which a clean document of another key was ejected.
@@ -73,3 +73,20 @@ abbrev pub SlotsAreApart : Type 0
 SlotsAreApart =
     (s : StripeData) (one other : ℕ) (node twin : NodeData) → IsStripe s → at s.slots one ≡ Some node → at s.slots other ≡ Some twin
     → node.key ≡ twin.key → one ≡ other
+
+-- as many slots, and the blocks of other keys that no ejecting frees
+pub record KeepsPinned (eviction : Eviction) (mark : ℕ) (key : List ℕ) (old new : List Slot) : Type 0 where
+  pub slots : length new ≡ length old
+  pub pinned : others_pinned eviction mark key new ≡ others_pinned eviction mark key old
+
+-- Ejecting for a key keeps these.
+abbrev pub EjectingKeepsPinned : Type 0
+EjectingKeepsPinned =
+    (eviction : Eviction) (mark : ℕ) (key : List ℕ) (need : ℕ) (old new : List Slot) → EjectsOthers eviction mark key need old new
+    → KeepsPinned eviction mark key old new
+
+-- Where none is left to eject, the others take these blocks alone.
+abbrev pub EjectingLeavesPinned : Type 0
+EjectingLeavesPinned =
+    (s : StripeData) (key : List ℕ) (need : ℕ) (new : List Slot) → IsStripe s → EjectsOthers s.eviction s.mark key need s.slots new
+    → victim s.mark key new ≡ None → others_blocks key new ≡ others_pinned s.eviction s.mark key s.slots

@@ -1,5 +1,5 @@
 //! The laws of what calls leave. The functions do nothing: their contracts are the laws, over all stripes.
-ghost use Rattle.hash_stripe.specs.Laws.{EjectingIsSlotwise, EjectingIsKeywise, PlacingIsKeywise, RestoringIsKeywise, HeatingIsKeywise, DroppingIsKeywise, CoolingIsKeywise, SlotsAreKeywise, KeysHaveSlots, SlotsAreApart};
+ghost use Rattle.hash_stripe.specs.Laws.{EjectingIsSlotwise, EjectingIsKeywise, PlacingIsKeywise, RestoringIsKeywise, HeatingIsKeywise, DroppingIsKeywise, CoolingIsKeywise, SlotsAreKeywise, KeysHaveSlots, SlotsAreApart, EjectingKeepsPinned, EjectingLeavesPinned};
 
 /// Ejecting changes no metadata that stays, no document of the key that room is made for, and nothing that isn't stored:
 /// each slot is as it was, or has what is left of a clean document of another key.
@@ -24,4 +24,11 @@ pub fn slots_are_keywise()
     ensures nodes { SlotsAreKeywise }
     ensures keys { KeysHaveSlots }
     ensures apart { SlotsAreApart }
+{}
+
+/// Ejecting frees no pinned block of another key, and where none is left to eject, the others take their pinned blocks
+/// alone. So what `room_for` and `restore` answer as free at [`Short`](crate::Short) is what the pinned ones leave.
+pub fn pinned_blocks_stay()
+    ensures keeps { EjectingKeepsPinned }
+    ensures leaves { EjectingLeavesPinned }
 {}
