@@ -1,12 +1,13 @@
 -- What is so of a stripe after each call.
-use Rattle.std.proofs.Common.{◌≡◌, ◌<◌, ◌≤◌, ℕ, suc, zero, ◌∙◌, Bool, true, false, cond, ◌||◌, List, [], ◌∷◌, length, nat_le, nat_lt, refl, sym, ap, subst, arith}
+use Rattle.std.proofs.Common.{◌≡◌, ◌<◌, ◌≤◌, ℕ, suc, zero, ◌∙◌, Bool, true, false, not, cond, ◌||◌, ◌+◌, List, [], ◌∷◌, length, nat_le, nat_lt, refl, sym, ap, subst, arith}
 use Rattle.std.proofs.Math.ListN.{set}
-use Rattle.std.specs.Prelude.{Option, Some, None, map, replicate}
+use Rattle.std.specs.Prelude.{Option, Some, None, map, replicate, count_by}
 use Rattle.std.specs.Option.{is_some}
 use Rattle.std.specs.Str.{bytes_eq}
 use Rattle.std.proofs.lemmas.Bool.{and_parts, ltb-false, leb-true, leb-false}
 use Rattle.std.proofs.lemmas.Slice.Eq.{bytes_eq-Decides}
 use Rattle.std.proofs.lemmas.List.{length-set, length-map, length-replicate}
+use Rattle.std.proofs.lemmas.List.Sums.{sum_by-cons}
 use Rattle.ep_model.specs.declared.call.Meta.{Meta}
 use Rattle.ep_model.specs.declared.config.Config.{Config}
 use Rattle.ep_model.specs.declared.config.Eviction.{Eviction}
@@ -14,8 +15,8 @@ use Rattle.ep_model.specs.declared.call.VbState.{VbState}
 use Rattle.ep_model.specs.declared.config.Field.{Field}
 use Rattle.ep_model.specs.declared.config.Field.TheVariants.{Vbuckets, Stripes, Blocks}
 use Rattle.ep_model.specs.Config.{is_outside, config_fault}
-use Rattle.hash_stripe.specs.Nodes.{NodeData, Slot, used, at, slot_blocks, is_keyed, is_clean, is_full_eviction, is_ejectable_slot, eject_slot, eject_at, Ejects, heated, cooled}
-use Rattle.hash_stripe.specs.Stripes.{StripeData, IsSlot, AreSlots, has_key, IsApart, AreApart, AreKeyed, IsStripe, IsValueOf, key_of}
+use Rattle.hash_stripe.specs.Nodes.{NodeData, Slot, used, at, slot_blocks, is_keyed, is_clean, is_full_eviction, is_ejectable_slot, eject_slot, eject_at, Ejects, heated, cooled, is_resident, is_ejected}
+use Rattle.hash_stripe.specs.Stripes.{StripeData, free_of, IsSlot, AreSlots, has_key, IsApart, AreApart, AreKeyed, IsStripe, IsValueOf, key_of}
 use Rattle.hash_stripe.proofs.ChainLemmas.{sum_of-set}
 use Rattle.hash_stripe.proofs.RoomLemmas.{next-facts, keyed-has, apart-key}
 
@@ -261,3 +262,29 @@ pub stripe-fresh : (index stripes blocks : ℕ) (e : Eviction) (state : VbState)
 stripe-fresh index stripes blocks e state slots place few is =
     subst (λ (ss : List Slot). IsStripe (record { index = index; stripes = stripes; eviction = e; slots = ss; mark = 0; state = state; opened = false })) (sym is)
     (stripe-new index stripes blocks e state place few)
+
+-- each node takes a block at least
+counts-one : (b : Bool) → cond b 1 0 + cond (not b) 1 0 ≡ 1
+counts-one true = refl
+counts-one false = refl
+
+nodes-within : (slots : List Slot) → AreKeyed slots → count_by is_resident slots + count_by is_ejected slots ≤ used slots
+nodes-within [] keyed = omega arith
+nodes-within (None ∷ slots) keyed =
+    let rest = nodes-within slots keyed.1 in
+    let resident = sum_by-cons (λ (s : Slot). cond {A = ℕ} (is_resident s) 1 0) None slots in
+    let away = sum_by-cons (λ (s : Slot). cond {A = ℕ} (is_ejected s) 1 0) None slots in
+    omega arith
+nodes-within (Some node ∷ slots) keyed =
+    let rest = nodes-within slots keyed.1 in
+    let resident = sum_by-cons (λ (s : Slot). cond {A = ℕ} (is_resident s) 1 0) (Some node) slots in
+    let away = sum_by-cons (λ (s : Slot). cond {A = ℕ} (is_ejected s) 1 0) (Some node) slots in
+    let one = counts-one (is_some node.value) in
+    let key = keyed.0 in
+    omega arith
+
+pub nodes-few : (s : StripeData) → IsStripe s → count_by is_resident s.slots + count_by is_ejected s.slots + free_of s ≤ length s.slots
+nodes-few s stripe =
+    let within = nodes-within s.slots (keyed-slots s.index s.stripes s.eviction s.mark s.slots stripe.nodes) in
+    let room = stripe.room in
+    omega arith

@@ -1,8 +1,8 @@
 -- What calls leave of each slot, and under each key.
-use Rattle.std.specs.Prelude.{ℕ, ◌≡◌, ◌≢◌, ◌<◌, ◌≤◌, List, length, map, Some, None}
+use Rattle.std.specs.Prelude.{ℕ, ◌≡◌, ◌≢◌, ◌<◌, ◌≤◌, ◌+◌, List, length, map, count_by, Some, None}
 use Rattle.ep_model.specs.declared.config.Eviction.{Eviction}
-use Rattle.hash_stripe.specs.Nodes.{NodeData, Slot, at, node_at, node_blocks, others_blocks, others_pinned, victim, EjectsOthers, IsLeft, Restores, placed, eject_slot, heated, cooled}
-use Rattle.hash_stripe.specs.Stripes.{StripeData, IsStripe, Fits, at_key}
+use Rattle.hash_stripe.specs.Nodes.{NodeData, Slot, at, node_at, node_blocks, others_blocks, others_pinned, victim, EjectsOthers, IsLeft, Restores, placed, eject_slot, heated, cooled, is_resident, is_ejected}
+use Rattle.hash_stripe.specs.Stripes.{StripeData, IsStripe, Fits, free_of, at_key}
 
 -- Ejecting for a key leaves each slot as it was, but those out of which a clean document of another key was ejected.
 abbrev pub EjectingIsSlotwise : Type 0
@@ -90,3 +90,9 @@ abbrev pub EjectingLeavesPinned : Type 0
 EjectingLeavesPinned =
     (s : StripeData) (key : List ℕ) (need : ℕ) (new : List Slot) → IsStripe s → EjectsOthers s.eviction s.mark key need s.slots new
     → victim s.mark key new ≡ None → others_blocks key new ≡ others_pinned s.eviction s.mark key s.slots
+
+-- Each node takes a block at least.
+abbrev pub NodesTakeBlocks : Type 0
+NodesTakeBlocks =
+    (s : StripeData) → IsStripe s
+    → count_by is_resident s.slots + count_by is_ejected s.slots + free_of s ≤ length s.slots

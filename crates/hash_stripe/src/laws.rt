@@ -1,5 +1,5 @@
 //! The laws of what calls leave. The functions do nothing: their contracts are the laws, over all stripes.
-ghost use Rattle.hash_stripe.specs.Laws.{EjectingIsSlotwise, EjectingIsKeywise, PlacingIsKeywise, RestoringIsKeywise, HeatingIsKeywise, DroppingIsKeywise, CoolingIsKeywise, SlotsAreKeywise, KeysHaveSlots, SlotsAreApart, EjectingKeepsPinned, EjectingLeavesPinned};
+ghost use Rattle.hash_stripe.specs.Laws.{EjectingIsSlotwise, EjectingIsKeywise, PlacingIsKeywise, RestoringIsKeywise, HeatingIsKeywise, DroppingIsKeywise, CoolingIsKeywise, SlotsAreKeywise, KeysHaveSlots, SlotsAreApart, EjectingKeepsPinned, EjectingLeavesPinned, NodesTakeBlocks};
 
 /// Ejecting changes no metadata that stays, no document of the key that room is made for, and nothing that isn't stored:
 /// each slot is as it was, or has what is left of a clean document of another key.
@@ -31,4 +31,9 @@ pub fn slots_are_keywise()
 pub fn pinned_blocks_stay()
     ensures keeps { EjectingKeepsPinned }
     ensures leaves { EjectingLeavesPinned }
+{}
+
+/// Each node takes a block at least: there are at most as many, with a value or without, as blocks that aren't free.
+pub fn nodes_take_blocks()
+    ensures { NodesTakeBlocks }
 {}

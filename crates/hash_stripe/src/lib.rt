@@ -10,7 +10,10 @@ mod stripe;
 mod table;
 
 pub use found::{Counts, Found};
-pub use laws::{calls_are_keywise, ejecting_is_slotwise, pinned_blocks_stay, slots_are_keywise};
+pub use laws::{
+    calls_are_keywise, ejecting_is_slotwise, nodes_take_blocks, pinned_blocks_stay,
+    slots_are_keywise,
+};
 pub use stripe::Stripe;
 pub use value_pool::Short;
 
