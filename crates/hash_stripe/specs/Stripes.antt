@@ -120,7 +120,9 @@ abbrev pub IsAwayOf : Meta → Slot → Type 0
 IsAwayOf meta None = Unit {0}
 IsAwayOf meta (Some node) = (node.value ≡ None) × (node.meta ≡ meta)
 
--- What is so of a slot that shows this. So whoever found it may read the value, put it back, or add the metadata.
+-- What is so of a slot that shows this, as far as other calls ask for it: the value may be read, put back, or the metadata
+-- added. It doesn't say what the slot shows: an empty one is away of all metadata, and of a value only the length is said.
+-- Beside `found slot`, which tells the rest, it is exact.
 abbrev pub IsShown : Found → Slot → Type 0
 IsShown Nothing slot = slot ≡ None
 IsShown (Ejected meta) slot = IsAwayOf meta slot

@@ -54,7 +54,7 @@ impl Stripe {
     ghost use Rattle.ep_model.specs.Limits.{max_key, max_value, IsKey, IsValue};
     ghost use Rattle.ep_model.specs.Config.{config_fault};
     ghost use Rattle.ep_model.specs.Stripes.{stripe_of};
-    ghost use Rattle.hash_stripe.specs.Nodes.{NodeData, at, used, node_at, node_in, is_ejectable_slot, others_blocks, others_pinned, victim, EjectsOthers, Restores, placed, eject_slot, heated, cooled, is_resident, is_ejected};
+    ghost use Rattle.hash_stripe.specs.Nodes.{NodeData, at, used, node_blocks, node_at, node_in, is_ejectable_slot, others_blocks, others_pinned, victim, EjectsOthers, Restores, placed, eject_slot, heated, cooled, is_resident, is_ejected};
     ghost use Rattle.hash_stripe.specs.Looks.{look_of};
     ghost use Rattle.hash_stripe.specs.Stripes.{IsStripe, Fits, IsSlot, free_of, found, key_of, key_len_of, meta_of, age_of, resident_value, text_of, at_key, IsAwayOf, IsShown};
 
@@ -231,7 +231,8 @@ impl Stripe {
           slots = placed self.old.slots
               (record { key = key.now; meta = meta; value = None; age = 0 });
         }) }
-        ensures fits { OnOk result (Fits key.now (blocks_of (length key.now)) self.old.slots) }
+        ensures fits { OnOk result (Fits key.now
+            (node_blocks (record { key = key.now; meta = meta; value = None; age = 0 })) self.old.slots) }
         ensures err { OnErr result (self.new ≡ self.old) }
         ensures numbers { IfErr result (λ short. (short.free ≡ free_of self.old) × (short.need ≡ blocks_of (length key.now))) }
     {

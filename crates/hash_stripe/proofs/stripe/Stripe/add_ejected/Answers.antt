@@ -1,5 +1,6 @@
-use Rattle.std.proofs.Common.{length, arith}
-use Rattle.value_pool.specs.Pools.{blocks_of}
+use Rattle.std.proofs.Common.{arith}
+use Rattle.std.specs.Prelude.{None}
+use Rattle.hash_stripe.specs.Nodes.{node_blocks}
 use Rattle.hash_stripe.proofs.StripeLemmas.{keyed-slots}
 use Rattle.hash_stripe.proofs.CallLemmas.{absent-slot, added-fits, stripe-added}
 use Rattle.hash_stripe.proofs.stripe.Stripe.add_ejected.Goals as goal
@@ -16,4 +17,4 @@ invariant_of-self c =
 
 pub returns-clause-fits : goal.returns-clause-fits
 returns-clause-fits c =
-    added-fits (record { index = c.self.inside.index; stripes = c.self.inside.stripes; eviction = c.self.inside.eviction; slots = c.self.inside.table; mark = c.self.inside.mark; state = c.self.inside.state; opened = c.self.inside.opened }) c.args.self.now c.args.key.now c.free-free.result (blocks_of (length c.args.key.now)) c.self.view_is c.requires.absent c.free-free.ensures.free (omega arith)
+    added-fits (record { index = c.self.inside.index; stripes = c.self.inside.stripes; eviction = c.self.inside.eviction; slots = c.self.inside.table; mark = c.self.inside.mark; state = c.self.inside.state; opened = c.self.inside.opened }) c.args.self.now c.args.key.now c.free-free.result (node_blocks (record { key = c.args.key.now; meta = c.args.meta; value = None; age = 0 })) c.self.view_is c.requires.absent c.free-free.ensures.free (omega arith)
