@@ -121,3 +121,22 @@ fn three(alloc: Global, eviction: Eviction) -> Option<Only> {
     only.mark(3);
     Some(only)
 }
+
+/// Whether a stripe of many blocks is made, and shows what it was made with and what a document pins.
+fn shows_what_is_pinned(alloc: Global) -> bool {
+    let Some(mut only) = only_of(alloc, 100_000, Eviction::Value) else {
+        return false;
+    };
+    let _put = only.put(b"a", 1, &BYTES[..300]);
+    let is_dirty = only.stripe.pinned(b"b") == 4 && only.stripe.pinned(b"a") == 0;
+    only.mark(1);
+    let is_clean = only.stripe.pinned(b"b") == 1;
+    let is_made = only.stripe.blocks() == 100_000 && only.stripe.eviction() == Eviction::Value;
+    is_dirty && is_clean && is_made
+}
+
+/// A document that isn't stored pins its four blocks, and a stored one its key's.
+#[test]
+fn a_stripe_of_many_blocks_tells_what_is_pinned(rt: HostRuntime) {
+    assert!(rt; shows_what_is_pinned(rt.alloc()));
+}
