@@ -1,5 +1,5 @@
 // The trait of whoever takes parts and notes events.
-ghost use Rattle.std.specs.Prelude.{◌≡◌, ◌+◌, ℕ, Bool, true, false, if◌then◌else◌, Option, Some, None, MatchResult};
+ghost use Rattle.std.specs.Prelude.{◌≡◌, ◌+◌, ℕ, Bool, true, false, if◌then◌else◌, Option, Some, None, IfErr, MatchResult};
 ghost use Rattle.std.specs.Borrow.{GName};
 ghost use Rattle.ep_model.specs.declared.data.FrontData.{FrontData};
 ghost use Rattle.ep_model.specs.declared.data.StartData.{StartData};
@@ -58,6 +58,9 @@ pub trait Stage {
     /// How often it found a part taken by somebody else.
     ghost losses: { Self → ℕ };
 
+    /// That somebody else has a part, as far as a stage can say so.
+    ghost elsewhere: { Self → PartName → Type 0 };
+
     /// Whether it tells where the parts are, and which parts are where. While it does, nobody else takes a part or
     /// notes an event between two of its calls.
     ghost is_telling: { Self → Bool };
@@ -72,7 +75,7 @@ pub trait Stage {
     fn caller(&self) -> u64
         ensures { result ≡ number self.now };
 
-    /// Takes a part out. It is busy only where somebody else has it.
+    /// Takes a part out. It is busy only where it found the part with somebody else.
     fn take(&mut self, part: PartName) -> Result<Self::Part, Busy>
         requires there { there (front self.old).config part ≡ true }
         requires free { holds self.old part ≡ false }
@@ -83,6 +86,7 @@ pub trait Stage {
         ensures kept { Keeps Self.Part.stands (holds self.old) (front self.old) (front self.new) }
         ensures taken { MatchResult result (λ x. Self.Part.stands part (front self.new) x × (losses self.new ≡ losses self.old)) (λ b. (b.part ≡ part) × Rose (losses self.old) (losses self.new)) }
         ensures held { MatchResult result (λ _. Same (holds self.new) (and_this part (holds self.old))) (λ _. Same (holds self.new) (holds self.old)) }
+        ensures elsewhere { IfErr result (λ _. elsewhere self.old part) }
         ensures alone { is_telling self.old ≡ true → front self.new ≡ front self.old }
         ensures was_there { is_telling self.old ≡ true → MatchResult result (λ x. tells self.old part ≡ Some x) (λ _. tells self.old part ≡ None) }
         ensures tells { is_telling self.old ≡ true → (p : PartName) → there (front self.old).config p ≡ true → tells self.new p ≡ (if same_part part p then None else tells self.old p) };

@@ -1,5 +1,6 @@
 -- What a pass's calls are, out of their steps.
 use Rattle.std.proofs.Common.{◌≡◌, ◌≢◌, ℕ, ◌+◌, ◌==◌, Bool, true, false, ◌||◌, List, [], ◌∷◌, Option, Some, None, IfSome, IfNone, refl, sym, ap, ◌∙◌, subst, ⊎_elim, inl, inr}
+use Rattle.std.specs.Prelude.{Result, Ok, Err, IfOk, OnErr}
 use mathlib.Core.Option.{none}
 use prog.Atomic.{either}
 use Rattle.atomic_table.specs.Table.{Me, step, rest, Allows}
@@ -17,10 +18,11 @@ use Rattle.std.specs.List.{AllByRecursion}
 use Rattle.hold_stage.specs.Grows.{Grown}
 use Rattle.turn_stage.specs.declared.data.JoinData.{JoinData}
 use Rattle.turn_stage.specs.Passes.{Joined}
-use Rattle.turn_stage.specs.Rule.{IsLonger, Turned}
+use Rattle.turn_stage.specs.Rule.{IsLonger, Turned, WasTaken}
 use Rattle.turn_stage.specs.Plays.{part_of, Won, Tried, PutDown, PickedUp, Gave, Told, longer, joined_view}
 use Rattle.turn_stage.specs.Seats.{IsResting, Taken, Missed}
 use Rattle.hold_stage.proofs.SlotLemmas.{same_itself}
+use Rattle.hold_stage.proofs.GrowsLemmas.{grown_nothing}
 use Rattle.turn_stage.proofs.StepLemmas.{tries, puts_down, picks_up, gives_back, named}
 
 module _ {P : Type 0} (stands : PartName → FrontData → P → Type 0) (keep : (p : PartName) (f : FrontData) (event : EventData) (x : P) → IsLegal f → May f event → touches f event p ≡ false → stands p f x → stands p (with_event f event) x) where
@@ -66,7 +68,7 @@ module _ {P : Type 0} (stands : PartName → FrontData → P → Type 0) (keep :
   -- the part is out, and its slot at home
   pub record Took (part : PartName) (m q : Me (Option P) View) (value : Option P) : Type 0 where
     pub found : IfSome value (λ x. Taken stands part m.0 q.0 x)
-    pub never : IfNone value (Missed m.0 q.0)
+    pub never : IfNone value (Missed stands part m.0 q.0)
     pub rests : IsResting q
 
   pub took : (m n p q : Me (Option P) View) (part : PartName) (slot : ℕ) (value : Option P) → IsResting m → slot ≡ slot_of m.0.front.config part → Won stands part m n
@@ -81,7 +83,7 @@ module _ {P : Type 0} (stands : PartName → FrontData → P → Type 0) (keep :
       record {
         found = subst (λ (o : Option P). IfSome o (λ x. Taken stands part m.0 q.0 x)) is_value
             (subst (λ (u : View). Taken stands part m.0 u won.value) (sym same) (record { is = refl; grown = won.grown; legal = won.legal; kept = won.kept; fine = won.fine }));
-        never = subst (λ (o : Option P). IfNone o (Missed m.0 q.0)) is_value tt;
+        never = subst (λ (o : Option P). IfNone o (Missed stands part m.0 q.0)) is_value tt;
         rests = record {
           carried = ap (λ (r : Me (Option P) View). r.1) view ∙ rests.carried;
           hand = ap (λ (r : Me (Option P) View). r.0.hand) view;
@@ -89,16 +91,23 @@ module _ {P : Type 0} (stands : PartName → FrontData → P → Type 0) (keep :
         };
       }
 
-  pub lost_at : (slots : ℕ) (m n : Me (Option P) View) (slot found : ℕ) → IsResting m → Tried stands (step slots (slot + 1) 0 1 none) m found n → found ≢ 0 → IsResting n × Missed m.0 n.0
-  lost_at slots m n slot found rests tried not_free =
-      let e = (tried.lost not_free).is in (
+  pub lost_at : (slots : ℕ) (m n : Me (Option P) View) (part : PartName) (slot found : ℕ) → IsResting m → slot ≡ slot_of m.0.front.config part → there m.0.front.config part ≡ true
+      → Tried stands (step slots (slot + 1) 0 1 none) m found n → found ≢ 0 → IsResting n × Missed stands part m.0 n.0
+  lost_at slots m n part slot found rests slotted here tried not_free =
+      let lost = tried.lost not_free in
+      let e = lost.is in (
         record {
           carried = ap (λ (r : Me (Option P) View). r.1) e ∙ rests.carried;
           hand = ap (λ (r : Me (Option P) View). r.0.hand) e ∙ rests.hand;
           live = ap (λ (r : Me (Option P) View). r.0.live) e ∙ rests.live;
         },
-        record { is = ap (λ (r : Me (Option P) View). r.0) e; legal = (tried.lost not_free).legal },
+        record { is = ap (λ (r : Me (Option P) View). r.0) e; taken = subst (λ (p : PartName). WasTaken stands p m.0) (named_at slots 0 1 slot m.0 part slotted here) lost.taken; legal = lost.legal },
       )
+
+  -- whether the part was taken or not, the front grew
+  pub tried_grown : {E : Type 0} (v w : View) (part : PartName) (r : Result P E) → IfOk r (λ x. Taken stands part v w x) → OnErr r (Missed stands part v w) → Grown v.front w.front (has v.held) v.caller v.desk
+  tried_grown v w part (Ok x) taken lost = taken.grown
+  tried_grown v w part (Err e) taken lost = subst (λ (u : View). Grown v.front u.front (has v.held) v.caller v.desk) (sym lost.is) (grown_nothing v.front (has v.held) v.caller v.desk)
 
   -- giving
   pub picks_up_at : (slots id : ℕ) (m : Me (Option P) View) (part : PartName) (slot : ℕ) → IsResting m → slot ≡ slot_of m.0.front.config part → there m.0.front.config part ≡ true → has m.0.held part ≡ true

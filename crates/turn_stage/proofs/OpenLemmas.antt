@@ -24,7 +24,7 @@ use Rattle.ep_model.specs.declared.event.PartName.TheVariants.{Stripe, Queue, De
 use Rattle.turn_stage.specs.Filled.{AreFilled}
 use Rattle.hold_stage.specs.Slots.{slot_of, name_of, bare_front}
 use Rattle.turn_stage.specs.Slots.{turn_of, has}
-use Rattle.turn_stage.specs.Rule.{IsEnded, Fits, Turned}
+use Rattle.turn_stage.specs.Rule.{IsEnded, Fits, Turned, SoleTakes}
 use Rattle.turn_stage.specs.Parts.{AreParts, first_view}
 use Rattle.hold_stage.proofs.SlotLemmas.{slot_within, name_of_slot}
 use Rattle.turn_stage.proofs.PartLemmas.{not_both}
@@ -144,6 +144,15 @@ module _ {P : Type 0} (stands : PartName → FrontData → P → Type 0) where
       free p here = dite (ℕ_discrete (turn_of s.words t.history.config p) 0) (λ e. e) (λ n.
           let o = t.owned p here n in
           absurd (not_both (has o.view.held p) o.has (ap (λ (u : View). has u.held p) (at_one s.views o.seat id o.view v o.at at (alone o.seat o.view o.at o.live)) ∙ bare p)))
+
+  pub sole_takes : SoleTakes stands
+  sole_takes part v all free w =
+      let h = w.holder free in
+      let other : w.seat ≢ h.seat = λ e. h.has.1.callers (ap (λ (u : View). u.caller) (at_one w.state.views w.seat h.seat v h.view w.at h.at e)) in
+      let two = shares_two w.state.views w.seat h.seat v h.view other w.at h.at in
+      let some = (w.rule.fits h.seat h.view h.at h.live).shares in
+      let total = w.rule.total in
+      omega arith
 
   pub filled : (v : View) (slots : List (Option P)) → Closing v slots → AreFilled slots
   filled v slots c k within =

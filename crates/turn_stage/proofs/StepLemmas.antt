@@ -19,11 +19,12 @@ use Rattle.hold_stage.specs.Grows.{Grown}
 use Rattle.turn_stage.specs.declared.data.View.{View}
 use Rattle.hold_stage.specs.Slots.{slot_of, name_of}
 use Rattle.turn_stage.specs.Slots.{turn_of, has, without_part}
-use Rattle.turn_stage.specs.Rule.{IsHeld, Fits, Apart, IsHome, Turned}
-use Rattle.turn_stage.specs.Plays.{part_of, Looked, Won, Tried, PutDown, PickedUp, Gave, Told}
+use Rattle.turn_stage.specs.Rule.{IsHeld, Fits, Apart, AnySeat, IsHome, Turned, WasTaken}
+use Rattle.turn_stage.specs.Plays.{part_of, Looked, Won, Lost, Tried, PutDown, PickedUp, Gave, Told}
 use Rattle.hold_stage.proofs.SlotLemmas.{same_itself, slot_within, name_of_slot}
 use Rattle.turn_stage.proofs.PartLemmas.{not_both, is_false, same_or, has_more, without_less, without_this, without_other}
 use Rattle.hold_stage.proofs.GrowsLemmas.{grown_nothing, grown_fewer, keeps_along}
+use Rattle.turn_stage.proofs.SeatLemmas.{at_one}
 use Rattle.turn_stage.proofs.FrontLemmas.{start_bare}
 use Rattle.turn_stage.proofs.MoveLemmas.{turn_here, turn_other, filled_other, held_other, moved}
 
@@ -207,6 +208,30 @@ module _ {P : Type 0} (stands : PartName → FrontData → P → Type 0) (keep :
       later true b e = refl
       later false b e = e
 
+  -- who finds a turn taken knows that somebody else has the part
+  pub taken_by : (s : State (Option P) View) → Turned stands s → (id : ℕ) (v : View) (part : PartName) → get_elem? s.views id ≡ some v → v.live ≡ true
+      → there v.front.config part ≡ true → turn_of s.words v.front.config part ≢ 0 → WasTaken stands part v
+  taken_by s t id v part at live here taken = record {
+    state = s;
+    rule = t;
+    seat = id;
+    at = at;
+    turn = taken;
+    holder = λ free. record {
+      seat = owner.seat;
+      view = owner.view;
+      at = owner.at;
+      live = owner.live;
+      has = (owner.has, t.apart id owner.seat v owner.view at owner.at live owner.live (λ e. not_both (has v.held part) (ap (λ (u : View). has u.held part) (at_one s.views id owner.seat v owner.view at owner.at e) ∙ owner.has) free));
+    };
+  }
+    where
+      config : v.front.config ≡ t.history.config
+      config = sym (t.fits id v at live).follows.config
+
+      owner : AnySeat (λ u. has u.held part ≡ true) s.views
+      owner = t.owned part (subst (λ (k : Config). there k part ≡ true) config here) (subst (λ (k : Config). turn_of s.words k part ≢ 0) config taken)
+
   pub named : (slots a b : ℕ) (v : View) (part : PartName) → there v.front.config part ≡ true → part_of (step {S = Option P} slots (slot_of v.front.config part + 1) a b none) v ≡ part
   named slots a b v part here =
       let e : slot_of v.front.config part + 1 - 1 ≡ slot_of v.front.config part = omega arith in
@@ -238,7 +263,10 @@ module _ {P : Type 0} (stands : PartName → FrontData → P → Type 0) (keep :
             (record { follows = f.follows; legal = f.legal; holds = f.holds; known = f.known; numbers = f.numbers; shares = f.shares; ended = f.ended; own = f.own; last = f.last })
             (λ u k a. record { parts = a.parts; callers = a.callers; desks = a.desks; givers = a.givers; later = a.later; sooner = a.sooner; ended = a.ended; ends = a.ends })
             (inr refl) refl refl refl),
-        record { won = λ e. absurd (n e); lost = λ _. record { is = refl; legal = f.legal } },
+        record {
+          won = λ e. absurd (n e);
+          lost = λ _. subst (λ (p : PartName). Lost stands p (v, c) (record v { losses = v.losses + 1 }, c)) same (record { is = refl; taken = was_taken n; legal = f.legal });
+        },
       ))
     where
       i : ℕ
@@ -258,6 +286,9 @@ module _ {P : Type 0} (stands : PartName → FrontData → P → Type 0) (keep :
 
       same : part ≡ part_of st v
       same = sym (named slots 0 1 v part here)
+
+      was_taken : slice_index s.words i ≢ 0 → WasTaken stands part v
+      was_taken n = taken_by s t id v part at live here n
 
   -- the same pass with another part on the way
   apart_hand : (u v : View) (hand : Option PartName) → Apart u v → Apart u (record v { hand = hand })

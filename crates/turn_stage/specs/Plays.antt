@@ -11,7 +11,7 @@ use Rattle.hold_stage.specs.Grows.{Grown, Keeps, Noted, Begun}
 use Rattle.turn_stage.specs.declared.data.View.{View}
 use Rattle.hold_stage.specs.Slots.{slot_of, name_of}
 use Rattle.turn_stage.specs.Slots.{has, without_part}
-use Rattle.turn_stage.specs.Rule.{IsLonger}
+use Rattle.turn_stage.specs.Rule.{IsLonger, WasTaken}
 use Rattle.std.specs.List.{AllByRecursion}
 
 -- the part whose turn a step is on
@@ -36,14 +36,15 @@ module _ {P : Type 0} (stands : PartName → FrontData → P → Type 0) where
     pub fine : stands part n.0.front value
 
   -- somebody else has the turn
-  pub record Lost (m n : Me (Option P) View) : Type 0 where
+  pub record Lost (part : PartName) (m n : Me (Option P) View) : Type 0 where
     pub is : n ≡ (record m.0 { losses = m.0.losses + 1 }, m.1)
+    pub taken : WasTaken stands part m.0
     pub legal : IsLegal m.0.front
 
   -- a compare and exchange on a turn wins or loses
   pub record Tried (st : Step (Option P)) (m : Me (Option P) View) (found : ℕ) (n : Me (Option P) View) : Type 0 where
     pub won : found ≡ 0 → Won (part_of st m.0) m n
-    pub lost : found ≢ 0 → Lost m n
+    pub lost : found ≢ 0 → Lost (part_of st m.0) m n
 
   -- an event was noted
   pub record Notes (event : EventData) (m n : Me (Option P) View) : Type 0 where

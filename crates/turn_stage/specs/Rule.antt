@@ -112,3 +112,17 @@ pub record Turned {P : Type 0} (stands : PartName → FrontData → P → Type 0
   -- numbers that weren't given have no event
   pub unspoken : (caller : ℕ) → given ≤ caller → IsUnspoken history.events caller
   pub total : all_shares s.views ≡ 2 ^ 64
+
+-- A pass with this view found a part's turn taken: in some state that met the rule and had the view. Unless the pass holds
+-- the part itself, another live one does.
+pub record WasTaken {P : Type 0} (stands : PartName → FrontData → P → Type 0) (part : PartName) (v : View) : Type 0 where
+  pub state : State (Option P) View
+  pub rule : Turned stands state
+  pub seat : ℕ
+  pub at : get_elem? state.views seat ≡ some v
+  pub turn : turn_of state.words v.front.config part ≢ 0
+  pub holder : has v.held part ≡ false → AnySeat (λ w. (has w.held part ≡ true) × Apart v w) state.views
+
+-- who has all shares finds no part taken but those that it holds
+abbrev pub SoleTakes : {P : Type 0} → (PartName → FrontData → P → Type 0) → Type 0
+SoleTakes stands = (part : PartName) (v : View) → v.share ≡ 2 ^ 64 → has v.held part ≡ false → WasTaken stands part v → ⊥

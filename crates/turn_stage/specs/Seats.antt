@@ -9,6 +9,7 @@ use Rattle.hold_stage.specs.Touches.{there}
 use Rattle.hold_stage.specs.Grows.{Grown, Keeps}
 use Rattle.turn_stage.specs.declared.data.View.{View}
 use Rattle.turn_stage.specs.Slots.{has}
+use Rattle.turn_stage.specs.Rule.{WasTaken}
 
 -- nothing is on the way
 abbrev pub is_empty : {A : Type 0} → List A → Bool
@@ -33,9 +34,10 @@ pub record IsResting {P : Type 0} (me : Me (Option P) View) : Type 0 where
   pub hand : me.0.hand ≡ None
   pub live : me.0.live ≡ true
 
--- Somebody else has the part.
-pub record Missed (v w : View) : Type 0 where
+-- Somebody else has the part: its turn was found taken, and nothing but the count of losses changed.
+pub record Missed {P : Type 0} (stands : PartName → FrontData → P → Type 0) (part : PartName) (v w : View) : Type 0 where
   pub is : w ≡ record v { losses = v.losses + 1 }
+  pub taken : WasTaken stands part v
   pub legal : IsLegal v.front
 
 -- A part was taken: the front grew, and the part stands for it.

@@ -43,7 +43,7 @@ pub fn take<P: Stands>(
     ensures board { seat.new.table_id ≡ seat.old.table_id }
     ensures rest { IsResting seat.new.me }
     ensures taken { IfSome result (λ x. Taken P.stands part seat.old.me.0 seat.new.me.0 x) }
-    ensures lost { IfNone result (Missed seat.old.me.0 seat.new.me.0) }
+    ensures lost { IfNone result (Missed P.stands part seat.old.me.0 seat.new.me.0) }
 {
     if !is_free(board.compare_exchange::<Tries>(seat, slot + 1, 0, 1)) {
         return None;

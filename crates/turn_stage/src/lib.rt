@@ -7,6 +7,7 @@
 
 mod atomic;
 mod data;
+pub mod laws;
 mod pass;
 mod rule;
 mod slots;

@@ -1,5 +1,6 @@
 // The stage of a pass.
 ghost use Rattle.std.specs.Prelude.{◌≡◌, false, None};
+ghost use Rattle.turn_stage.specs.Rule.{WasTaken};
 ghost use Rattle.turn_stage.specs.Slots.{has};
 ghost use Rattle.turn_stage.specs.Passes.{view_of, pass_data, IsPassOf};
 
@@ -35,6 +36,8 @@ impl<'a, P: Stands + Drop> Stage for TurnStage<'a, P> {
     ghost covers = { λ _ _ _. Unit {0} };
 
     ghost losses = { λ s. (view_of s.pass.now).losses };
+
+    ghost elsewhere = { λ s part. WasTaken P.stands part (view_of s.pass.now) };
 
     ghost is_telling = { λ _. false };
 

@@ -41,7 +41,7 @@ impl<P: Stands + Drop> Turns<P> {
         ensures of { IsPassOf self.now pass.new }
         ensures taken { IfOk result (λ x. Taken P.stands part (view_of pass.old) (view_of pass.new) x) }
         ensures busy { IfErr result (λ b. b.part ≡ part) }
-        ensures lost { OnErr result (Missed (view_of pass.old) (view_of pass.new)) }
+        ensures lost { OnErr result (Missed P.stands part (view_of pass.old) (view_of pass.new)) }
     {
         let slot = slot_of(&self.config, part);
         match atomic::take(&self.table.shared, &mut pass.seat, part, slot) {

@@ -1,5 +1,5 @@
 // The stage of a vBucket of a world.
-ghost use Rattle.std.specs.Prelude.{◌≡◌, ◌<◌, ◌≤◌, length, true};
+ghost use Rattle.std.specs.Prelude.{◌≡◌, ◌<◌, ◌≤◌, length, true, None};
 ghost use Rattle.vb_world.specs.declared.data.FixedData.{FixedData};
 ghost use Rattle.vb_world.specs.World.{front_in, part_in, has_out, fixed_in};
 
@@ -51,6 +51,8 @@ impl<'a, P: Stands + Drop> Stage for WorldStage<'a, P> {
     ghost covers = { λ s events bytes. (events ≤ s.world.now.event_room) × (bytes ≤ s.world.now.byte_room) };
 
     ghost losses = { λ s. s.world.now.losses };
+
+    ghost elsewhere = { λ s part. part_in s.world.now s.vb part ≡ None };
 
     ghost is_telling = { λ _. true };
 
