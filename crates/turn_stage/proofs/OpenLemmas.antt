@@ -117,6 +117,7 @@ module _ {P : Type 0} (stands : PartName → FrontData → P → Type 0) where
   pub record Closing (v : View) (slots : List (Option P)) : Type 0 where
     pub count : length slots ≡ v.front.config.stripes + 2
     pub legal : IsLegal v.front
+    pub desk : v.desk ≡ true
     pub parts : (part : PartName) → there v.front.config part ≡ true → (x : P) × (get_elem? slots (slot_of v.front.config part) ≡ some (Some x)) × stands part v.front x
     pub ended : AllByRecursion (λ e. Grown e.1 v.front (λ _. false) e.0 false) v.ended
 
@@ -125,6 +126,7 @@ module _ {P : Type 0} (stands : PartName → FrontData → P → Type 0) where
       subst (λ (f : FrontData). Closing (record v { front = f }) slots) (sym whole) (record {
         count = sym count ∙ t.slotted;
         legal = t.legal;
+        desk = let d = t.desked in ap (λ (u : View). u.desk) (sym (at_one s.views d.seat id d.view v d.at at (alone d.seat d.view d.at d.live))) ∙ d.has;
         parts = λ p here. let k = t.home p here (free p here) in (k.value, homes (slot_of t.history.config p) (Some k.value) k.at, k.fine);
         ended = all_each (IsEnded t.history t.given) (λ e. Grown e.1 t.history (λ _. false) e.0 false) v.ended (λ e k. k.grown) (t.fits id v at live).ended;
       })

@@ -200,13 +200,15 @@ impl<P: Stands + Drop> Turns<P> {
     }
 
     /// The parts, once every other pass was joined and no part is held. They stand for the pass's front, which has of
-    /// each caller whose pass was joined exactly the events that its own last front had. Linear in the number of parts.
+    /// each caller whose pass was joined exactly the events that its own last front had. The pass is the desk's, since
+    /// one always is. Linear in the number of parts.
     pub fn close(self, pass: TurnPass<P>) -> Vec<P>
         requires of { IsPassOf self pass }
         requires alone { (view_of pass).share ≡ 2 ^ 64 }
         requires none { IsNone (has (view_of pass).held) }
         ensures parts { AreParts P.stands (view_of pass).front result.items }
         ensures legal { IsLegal (view_of pass).front }
+        ensures desk { (view_of pass).desk ≡ true }
         ensures joined { AreJoined (view_of pass).front (view_of pass).ended }
     {
         let Turns {

@@ -22,6 +22,11 @@ returns-clause-legal g c =
     let v = c.args.pass.seat.me.0 in
     (closes g.P.Stands.stands (slots_items c.close_with.result.words) (slots_items c.close_with.result.slots) c.args.pass.seat.id v (rests c.args.pass.seat.me c.args.pass.rests).live c.requires.alone c.requires.none c.close_with.ensures.values.2).legal
 
+pub returns-clause-desk : goal.returns-clause-desk
+returns-clause-desk g c =
+    let v = c.args.pass.seat.me.0 in
+    (closes g.P.Stands.stands (slots_items c.close_with.result.words) (slots_items c.close_with.result.slots) c.args.pass.seat.id v (rests c.args.pass.seat.me c.args.pass.rests).live c.requires.alone c.requires.none c.close_with.ensures.values.2).desk
+
 pub returns-clause-joined : goal.returns-clause-joined
 returns-clause-joined g c =
     let v = c.args.pass.seat.me.0 in
