@@ -1,16 +1,15 @@
 -- What a walk over the items above a number meets.
-use Rattle.std.proofs.Common.{◌≡◌, ℕ, ◌<◌, Bool, true, false, cond, List, [], ◌∷◌, ◌++◌, length, Some, None, refl, sym, ap, subst, ◌∙◌, arith}
+use Rattle.std.proofs.Common.{◌≡◌, ℕ, ◌<◌, Bool, true, false, cond, List, [], ◌∷◌, ◌++◌, length, Some, refl, sym, ap, subst, ◌∙◌, arith}
 use Rattle.std.specs.Prelude.{filter, nat_lt}
 use Rattle.std.specs.List.{find}
 use Rattle.std.proofs.lemmas.List.{append-nil}
 use Rattle.std.proofs.lemmas.Bool.Decides.{nat_tests}
-use Rattle.ep_model.specs.Limits.{IsKey, IsValue}
 use Rattle.ckpt_items.specs.declared.data.ItemData.{ItemData}
-use Rattle.ckpt_items.specs.Items.{IsFit, is_above, has_number}
+use Rattle.ckpt_items.specs.Items.{is_above}
 use Rattle.ckpt_manager.specs.declared.data.QueueData.{QueueData}
-use Rattle.ckpt_manager.specs.Queue.{held, items_above, last_of, ReadsOn}
+use Rattle.ckpt_manager.specs.Queue.{held, items_above, last_of}
 use Rattle.ckpt_manager.specs.Sound.{IsSoundQueue}
-use Rattle.ckpt_manager.specs.Walk.{Meets, HasWalked, items_met, WalksOn, ReadsGoOn, MeetsAll, ReadsMeetAll}
+use Rattle.ckpt_manager.specs.Walk.{Meets, HasWalked, items_met, ReadsGoOn, ReadsMeetAll}
 use Rattle.ckpt_manager.proofs.ItemLemmas.{all-found}
 use Rattle.ckpt_manager.proofs.QueueLemmas.{WithinLimits}
 use Rattle.ckpt_manager.proofs.CallLemmas.{found-number}

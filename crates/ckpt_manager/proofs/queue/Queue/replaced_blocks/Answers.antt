@@ -1,4 +1,4 @@
-use Rattle.std.proofs.Common.{◌≡◌, ◌+◌, Option, sym, ◌∙◌, subst, arith, length}
+use Rattle.std.proofs.Common.{◌≡◌, ◌+◌, Option, sym, ◌∙◌, subst, length}
 use Rattle.std.specs.Prelude.{MatchOption}
 use Rattle.ep_model.specs.World.{blocks}
 use Rattle.ep_model.specs.declared.call.Meta.{Meta}
