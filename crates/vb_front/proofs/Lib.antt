@@ -15,3 +15,4 @@ pub mod QueueLemmas
 pub mod KeptLemmas
 pub mod EntryLemmas
 pub mod BatchLemmas
+pub mod RowLemmas

@@ -5,6 +5,7 @@ pub mod Parts
 pub mod Priors
 pub mod Waits
 pub mod Reads
+pub mod Writes
 pub mod Controls
 pub mod Desks
 pub mod Laws

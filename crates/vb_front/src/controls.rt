@@ -43,7 +43,7 @@ fn put_table(table: &Failovers, value: &mut Out)
 }
 
 /// The uuid of the newest entry, 0 where there is none.
-fn newest(table: &Failovers) -> u64
+pub(crate) fn newest(table: &Failovers) -> u64
     ensures { result ≡ uuid_of table.now }
 {
     match table.entry(0) {

@@ -22,7 +22,7 @@ use ep_model::{Call, Cause, Eviction, Meta, Out, Reply, Ticket, rules};
 use hash_stripe::Found;
 
 /// The call is answered, and its place is free.
-fn answer(part: &mut StripePart, prior: Option<Ticket>, reply: Reply) -> Step
+pub(crate) fn answer(part: &mut StripePart, prior: Option<Ticket>, reply: Reply) -> Step
     ensures step { result ≡ steps.Done reply }
     ensures part { part.new ≡ record part.old { book = release part.old.book prior } }
 {
@@ -31,7 +31,7 @@ fn answer(part: &mut StripePart, prior: Option<Ticket>, reply: Reply) -> Step
 }
 
 /// The call is refused, and its place is free.
-fn refuse(part: &mut StripePart, prior: Option<Ticket>, cause: Cause) -> Step
+pub(crate) fn refuse(part: &mut StripePart, prior: Option<Ticket>, cause: Cause) -> Step
     ensures step { result ≡ steps.Refused cause }
     ensures part { part.new ≡ record part.old { book = release part.old.book prior } }
 {

@@ -8,11 +8,13 @@ mod part;
 pub mod queue_laws;
 mod step;
 mod wait;
+mod writes;
 
 pub use controls::control;
 pub use get::read;
 pub use part::{DeskPart, Part, StripePart};
 pub use step::Step;
+pub use writes::write;
 
 #[cfg(test)]
 mod tests;
