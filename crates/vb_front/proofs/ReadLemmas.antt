@@ -1,7 +1,6 @@
 -- A Get on a stripe that stands: its event is legal, and the stripe stands behind it.
 use Rattle.std.proofs.Common.{◌≡◌, ℕ, ◌≤◌, ◌+◌, true, false, cond, List, ◌∷◌, ◌++◌, length, refl, sym, ap, subst, ◌∙◌, arith}
-use Rattle.std.specs.Prelude.{Option, Some, None, nat_lt, not, ◌==◌, ◌&&◌, ◌||◌}
-use Rattle.std.specs.Option.{is_none}
+use Rattle.std.specs.Prelude.{Option, Some, None, nat_lt, not, is_none, ◌==◌, ◌&&◌, ◌||◌}
 use Rattle.std.specs.FinMap.{get}
 use Rattle.std.proofs.lemmas.Bool.Decides.{nat_tests}
 use Rattle.ep_model.specs.declared.call.VbState.{VbState}
@@ -22,7 +21,7 @@ use Rattle.ep_model.specs.Refusals.{state_refusal}
 use Rattle.ep_model.specs.Answer.{Answer, unless, refused, answer_get, answer_row, answer}
 use Rattle.ep_model.specs.Mutations.{put_by}
 use Rattle.ep_model.specs.Front.{begun, world_of, marked}
-use Rattle.ep_model.specs.Quota.{pinned, standing_blocks, old_blocks, need, exceeds, is_overfull, is_short}
+use Rattle.ep_model.specs.Quota.{pinned, standing_blocks, need, old_blocks, exceeds, is_overfull, is_short}
 use Rattle.ep_model.specs.Legal.{IsServing, IsLegal}
 use Rattle.ep_model.proofs.EffectLemmas.{get_done}
 use Rattle.hold_stage.proofs.ViewLemmas.{frame_after}
@@ -72,8 +71,7 @@ no_room_cause f stripe call now key part blocks keyed here apart opened needed o
     let need_is : old_blocks (world_of f) key call ≡ blocks =
     ap (λ e. cond (needs e call && is_none (own_refusal (world_of f).fit call)) (standing_blocks key (get (world_of f).docs key)) 0) frame.eviction
     ∙ ap (λ b. cond (b && is_none (own_refusal (world_of f).fit call)) (standing_blocks key (get (world_of f).docs key)) 0) needed
-    ∙ ap (λ (o : Option ℕ). cond (is_none o) (standing_blocks key (get (world_of f).docs key)) 0) own
-    ∙ stands in
+    ∙ ap (λ o. cond (is_none o) (standing_blocks key (get (world_of f).docs key)) 0) own ∙ stands in
     let taken : 1 ≤ blocks = takes_room key blocks (get (world_of f).docs key) keyed shows in
     let over : exceeds f.config.blocks (pinned (world_of f) stripe (marked f stripe) key) (need (world_of f) key call now) ≡ true = grind (arith, nat_tests) in
     ap (λ b. b || is_overfull f (put_by (answer (world_of f) call now).effect)) (ap (λ n. exceeds f.config.blocks (pinned (world_of f) n (marked f n) key) (need (world_of f) key call now)) here ∙ over)

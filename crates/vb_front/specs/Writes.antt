@@ -14,7 +14,7 @@ use Rattle.ep_model.specs.declared.data.CallData.TheVariants.{Store, Join, Count
 use Rattle.ep_model.specs.declared.data.FrontData.{FrontData}
 use Rattle.ep_model.specs.World.{Doc, World, empty_world, live_of, meta_of, doc_from, doc_blocks, blocks, stored_expiry, next_doc, tombstone}
 use Rattle.ep_model.specs.Limits.{max_value}
-use Rattle.ep_model.specs.Needs.{needs}
+use Rattle.ep_model.specs.Needs.{needs, own_refusal}
 use Rattle.ep_model.specs.Refusals.{state_refusal, size_refusal, store_refusal, wanted_refusal}
 use Rattle.ep_model.specs.Answer.{Answer, Effect, Nothing, Puts, Sets, unless, refused, cas_of, puts, put_success, stores, answer_join, answer_count, answer_touch, answer_row}
 use Rattle.ep_model.specs.Legal.{IsLegal}
@@ -88,11 +88,6 @@ row_of w (Count down key delta initial expiration cas) now live = answer_count d
 row_of w (Delete key cas) now live = delete_row w key cas now (cas_of live)
 row_of w (Touch key expiration fetch) now live = answer_touch fetch w key expiration now live
 row_of w call now live = answer_row w call now
-
--- The status by which a call is refused whatever its document is: what it is to store is too large.
-abbrev pub own_refusal : World → CallData → Option ℕ
-own_refusal w (Store kind key value flags expiration cas) = size_refusal w.fit (length key) (length value)
-own_refusal w call = None
 
 -- What becomes of the documents: nothing; room is made for so many blocks under a key, and nothing put; a document is put.
 pub data Act : Type 0 where
@@ -169,7 +164,7 @@ write_waits part q prior call key now waits.Asks = record {
   act = Stays;
 }
 write_waits part q prior call key now waits.Absent = write_over part q prior call now None
-write_waits part q prior call key now (waits.Refused causes.Quota) = write_crowded part prior (own_refusal (shown_world part.table q) call)
+write_waits part q prior call key now (waits.Refused causes.Quota) = write_crowded part prior (own_refusal (shown_world part.table q).fit call)
 write_waits part q prior call key now (waits.Refused cause) = write_refused part prior cause Stays
 
 abbrev pub write_found : StripePart → QueueData → Option Ticket → CallData → List ℕ → ℕ → Found → Write

@@ -17,7 +17,7 @@ ghost use Rattle.hash_stripe.specs.Nodes.{Slot, node_at};
 ghost use Rattle.hash_stripe.specs.Stripes.{found};
 ghost use Rattle.vb_front.specs.Waits.{waited};
 ghost use Rattle.vb_front.specs.Priors.{key_in};
-ghost use Rattle.vb_front.specs.Writes.{shown_world, seen_meta, shown_doc, text_at, is_away, own_refusal, HasText};
+ghost use Rattle.vb_front.specs.Writes.{seen_meta, shown_doc, text_at, is_away, HasText};
 ghost use Rattle.vb_front.specs.Writes.{write_over, write_waits, write_found, write_step};
 ghost use Rattle.vb_front.specs.Writes.{Comes, Leaves};
 
@@ -186,19 +186,6 @@ fn write_over(
     }
 }
 
-/// The status by which a call is refused whatever its document is: what it is to store is too large.
-fn own_refusal(part: &StripePart, queue: &Queue, call: &Call) -> Option<u16>
-    requires { IsWithin (call_data call.now) }
-    ensures { result ≡ own_refusal (shown_world part.now.table queue.now) (call_data call.now) }
-{
-    match *call {
-        Call::Store { key, value, .. } => {
-            rules::size_refusal(puts::fit(&part.table, queue), key.len(), value.len())
-        }
-        _ => None,
-    }
-}
-
 /// A call that needs what isn't in memory.
 fn write_away(
     part: &mut StripePart,
@@ -230,7 +217,7 @@ fn write_away(
             wait::ask(&mut part.book, key)
         }
         Waited::Absent => write_over(part, queue, call, None, now, prior, value),
-        Waited::Refused(Cause::Quota) => match own_refusal(part, queue, call) {
+        Waited::Refused(Cause::Quota) => match rules::own_refusal(puts::fit(&part.table, queue), call) {
             None => refuse(part, prior, Cause::Quota),
             Some(status) => answer(part, prior, Reply::refusal(status)),
         },
