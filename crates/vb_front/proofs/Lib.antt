@@ -16,3 +16,6 @@ pub mod KeptLemmas
 pub mod EntryLemmas
 pub mod BatchLemmas
 pub mod RowLemmas
+pub mod EjectLemmas
+pub mod SeenLemmas
+pub mod RowEffectLemmas

@@ -45,13 +45,13 @@ pub record IsWritten (s : StripeData) (new : List Slot) (key : List ℕ) (node :
   pub size : length new ≡ length s.slots
 
 -- what an ejected document was
-record WasClean (eviction : Eviction) (mark : ℕ) (old : Slot) (left : Option NodeData) : Type 0 where
-  was : NodeData
-  old_is : old ≡ Some was
-  low : was.meta.seqno ≤ mark
-  left_is : left ≡ cond (is_full_eviction eviction || was.meta.deleted) None (Some (record was { value = None }))
+pub record WasClean (eviction : Eviction) (mark : ℕ) (old : Slot) (left : Option NodeData) : Type 0 where
+  pub was : NodeData
+  pub old_is : old ≡ Some was
+  pub low : was.meta.seqno ≤ mark
+  pub left_is : left ≡ cond (is_full_eviction eviction || was.meta.deleted) None (Some (record was { value = None }))
 
-was_clean : (eviction : Eviction) (mark : ℕ) (old new : Slot) → is_ejectable_slot mark old ≡ true → new ≡ eject_slot eviction old → WasClean eviction mark old new
+pub was_clean : (eviction : Eviction) (mark : ℕ) (old new : Slot) → is_ejectable_slot mark old ≡ true → new ≡ eject_slot eviction old → WasClean eviction mark old new
 was_clean eviction mark None new test is = absurd (cc)
 was_clean eviction mark (Some was) new test is = record {
   was = was;
@@ -61,14 +61,19 @@ was_clean eviction mark (Some was) new test is = record {
 }
 
 -- an ejected node that is left
-left_node : (full deleted : Bool) (was node : NodeData) → cond (full || deleted) None (Some (record was { value = None })) ≡ Some node → (full ≡ false) × (deleted ≡ false) × (node ≡ record was { value = None })
+pub left_node : (full deleted : Bool) (was node : NodeData) → cond (full || deleted) None (Some (record was { value = None })) ≡ Some node → (full ≡ false) × (deleted ≡ false) × (node ≡ record was { value = None })
 left_node true deleted was node is = absurd (cc)
 left_node false true was node is = absurd (cc)
 left_node false false was node is = (refl, refl, (let e : record was { value = None } ≡ node = cc in sym e))
 
-left_none : (full deleted : Bool) (was : NodeData) → cond (full || deleted) None (Some (record was { value = None })) ≡ None → full ≡ false → deleted ≡ true
+pub left_none : (full deleted : Bool) (was : NodeData) → cond (full || deleted) None (Some (record was { value = None })) ≡ None → full ≡ false → deleted ≡ true
 left_none full true was is value = refl
 left_none full false was is value = absurd (let e = ap (λ b. cond (b || false) None (Some (record was { value = None }))) value in cc)
+
+-- a document that an ejected node was of
+pub gone_below : (e : Eviction) (mark : ℕ) (d : Doc) → d.seqno ≤ mark → (is_full_eviction e ≡ false → d.deleted ≡ true) → IsGone e mark (Some d)
+gone_below Value mark d low deleted = (low, deleted refl)
+gone_below Full mark d low deleted = low
 
 module _ (f : FrontData) (stripe : ℕ) (event : EventData) (key : List ℕ) (doc : Doc) (putting : IsPutting f event key doc) (here : stripe_of key f.config.stripes ≡ stripe) where
   told : (world_of (with_event f event)).told ≡ true → (world_of f).told ≡ true
@@ -118,10 +123,6 @@ module _ (f : FrontData) (stripe : ℕ) (event : EventData) (key : List ℕ) (do
               subst (λ (x : NodeData). NodeShows (with_event f event) other x) (sym l.2) (record { doc = old.doc; found = other_doc other differs ∙ old.found; meta = old.meta; value = tt })
         ]
 
-    gone_below : (e : Eviction) (d : Doc) → d.seqno ≤ marked f stripe → (is_full_eviction e ≡ false → d.deleted ≡ true) → IsGone e (marked f stripe) (Some d)
-    gone_below Value d low deleted = (low, deleted refl)
-    gone_below Full d low deleted = low
-
     other_gone : (other : List ℕ) → other ≢ key → TableShows f stripe s → (world_of f).opened ≡ true → stripe_of other f.config.stripes ≡ stripe → node_at new other ≡ None → IsGone f.config.eviction (marked f stripe) (get (world_of f).docs other)
     other_gone other differs t opened home none =
         elim (w.left other differs) as (λ _. IsGone f.config.eviction (marked f stripe) (get (world_of f).docs other)) [
@@ -132,7 +133,7 @@ module _ (f : FrontData) (stripe : ℕ) (event : EventData) (key : List ℕ) (do
               let low : old.doc.seqno ≤ marked f stripe = (let a = c.low in let b = h.mark in let d = ap (λ m. m.seqno) old.meta in omega arith) in
               let deleted : is_full_eviction f.config.eviction ≡ false → old.doc.deleted ≡ true =
               (λ v. sym (ap (λ m. m.deleted) old.meta) ∙ left_none (is_full_eviction s.eviction) c.was.meta.deleted c.was (sym c.left_is ∙ none) (ap is_full_eviction h.eviction ∙ v)) in
-              subst (λ (o : Option Doc). IsGone f.config.eviction (marked f stripe) o) (sym old.found) (gone_below f.config.eviction old.doc low deleted)
+              subst (λ (o : Option Doc). IsGone f.config.eviction (marked f stripe) o) (sym old.found) (gone_below f.config.eviction (marked f stripe) old.doc low deleted)
         ]
 
     by_key : (P : List ℕ → Type 0) (other : List ℕ) → (other ≡ key → P other) → (other ≢ key → P other) → P other
