@@ -19,3 +19,4 @@ pub mod RowLemmas
 pub mod EjectLemmas
 pub mod SeenLemmas
 pub mod RowEffectLemmas
+pub mod WriteLemmas

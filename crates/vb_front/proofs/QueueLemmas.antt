@@ -33,7 +33,7 @@ use Rattle.ckpt_manager.proofs.QueueLemmas.{clear-cases}
 use Rattle.vb_front.specs.Stands.{IsItem, AreItems, IsPassed, QueueStands}
 use Rattle.vb_front.specs.Apart.{cut_step}
 use Rattle.vb_front.specs.Keeps.{items_keep}
-use Rattle.vb_front.specs.Queues.{PutsNothing, QueuesTakeMutations, QueuesTakeCalls, QueuesStandBehindAnswers, QueuesStandBehindRefusals, QueuesSetStates, QueuesOpen, QueuesExpel, QueuesStore, QueuesAreRead, QueuesAreReadAgain}
+use Rattle.vb_front.specs.Queues.{IsPutBy, PutsNothing, QueuesTakeMutations, QueuesTakeCalls, QueuesStandBehindAnswers, QueuesStandBehindRefusals, QueuesSetStates, QueuesOpen, QueuesExpel, QueuesStore, QueuesAreRead, QueuesAreReadAgain}
 use Rattle.vb_front.proofs.CalmLemmas.{calm_called, calm_refused, queue_calm}
 
 -- A queue is that of a world with these checkpoints, whose documents are known as those of the front are.
@@ -284,7 +284,7 @@ effect_put w Nothing key doc is = absurd (cc)
 effect_put w (Puts k d) key doc is = let e : (k, d) ≡ (key, doc) = cc in ap (λ (item : Item). put w item.0 item.1) e
 effect_put w (Sets state) key doc is = absurd (cc)
 
-puts_world : (w : World) (event : EventData) (key : List ℕ) (doc : Doc) → mutation_of w event ≡ Some (key, doc) → step w event ≡ put w key doc
+pub puts_world : (w : World) (event : EventData) (key : List ℕ) (doc : Doc) → mutation_of w event ≡ Some (key, doc) → step w event ≡ put w key doc
 puts_world w (Called caller call now reply value) key doc is = effect_put w (call_effect w call now reply) key doc is
 puts_world w (Refused caller call now cause) key doc is = absurd (cc)
 puts_world w (Expired k now) key doc is = effect_put w (Puts k (tombstone w now)) key doc is
@@ -326,21 +326,32 @@ untold_effect : (w : World) (call : CallData) (now : ℕ) (reply : Reply) → w.
 unfolding call_effect
 untold_effect w call now reply untold = ap (λ b. cond b (answer w call now).effect (seen_effect w call now reply)) untold
 
+-- The document that a call puts which was answered so: where documents are known, the one of these metadata and this value.
+pub call_puts : (f : FrontData) (caller : ℕ) (call : CallData) (now : ℕ) (reply : Reply) (text key : List ℕ) (meta : Meta) (value : List ℕ) → IsPutBy f call now reply key meta value
+    → (doc : Doc) × (mutation_of (world_of f) (Called caller call now reply text) ≡ Some (key, doc)) × (meta.cas ≡ doc.cas) × ((world_of f).told ≡ true → doc_from (item_of key meta value ((world_of f).high + 1)).meta value ≡ doc)
+call_puts f caller call now reply text key meta value h =
+    elim (world_of f).told as (λ b. (world_of f).told ≡ b → (doc : Doc) × (mutation_of (world_of f) (Called caller call now reply text) ≡ Some (key, doc)) × (meta.cas ≡ doc.cas) × (b ≡ true → doc_from (item_of key meta value ((world_of f).high + 1)).meta value ≡ doc)) [
+      | true ↦ λ told. (
+        doc_from (item_of key meta value ((world_of f).high + 1)).meta value,
+        ap put_by (call_told (world_of f) call now reply told ∙ h.shown told),
+        refl,
+        λ _. refl,
+      )
+      | false ↦ λ untold. (
+        next_doc (world_of f) [] 0 0 false now,
+        ap put_by (untold_effect (world_of f) call now reply untold ∙ seen_written (world_of f) call now reply key h.written
+            ∙ ap (λ b. cond b Nothing (Puts key (next_doc (world_of f) [] 0 0 false now))) (no_number reply.seqno (h.seen untold))),
+        h.cas,
+        λ told. absurd (cc),
+      )
+    ] refl
+
 -- A call that puts a document, and the queue that took it.
 pub queue_takes : QueuesTakeCalls
 queue_takes f caller call now reply text q key meta value h s =
-    let event = Called caller call now reply text in
-    elim (world_of f).told as (λ b. (world_of f).told ≡ b → QueueStands (with_event f event) (queue_with q key meta value)) [
-      | true ↦ λ told.
-          queue_puts f event q key meta value (doc_from (item_of key meta value ((world_of f).high + 1)).meta value)
-          (ap put_by (call_told (world_of f) call now reply told ∙ h.shown told)) refl
-          (λ _. ap (λ n. doc_from (item_of key meta value (n + 1)).meta value) s.high) s
-      | false ↦ λ untold.
-          queue_puts f event q key meta value (next_doc (world_of f) [] 0 0 false now)
-          (ap put_by (untold_effect (world_of f) call now reply untold ∙ seen_written (world_of f) call now reply key h.written
-          ∙ ap (λ b. cond b Nothing (Puts key (next_doc (world_of f) [] 0 0 false now))) (no_number reply.seqno (h.seen untold)))) h.cas
-          (λ told. absurd (cc)) s
-    ] refl
+    let p = call_puts f caller call now reply text key meta value h in
+    queue_puts f (Called caller call now reply text) q key meta value p.0 p.1 p.2
+    (λ told. ap (λ n. doc_from (item_of key meta value (n + 1)).meta value) s.high ∙ p.3 told) s
 
 -- a call whose reply has no number did nothing, as far as that tells
 seen_nothing : (w : World) (call : CallData) (now : ℕ) (reply : Reply) → reply.seqno ≡ 0 → ((state : VbState) → call ≢ calls.SetState state) → seen_effect w call now reply ≡ Nothing

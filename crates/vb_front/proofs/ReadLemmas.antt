@@ -52,7 +52,7 @@ prior_shows f stripe caller call key part ticket outcome legal keyed s p is told
     subst (λ (k : List ℕ). OutcomeShows f k outcome) same (subst (λ (o : Outcome). OutcomeShows f found.0.key o) found.2 (found.3.shown told))
 
 -- a document takes a block at least, which is its key's
-takes_room : (key : List ℕ) (blocks : ℕ) (o : Option Doc) → IsKey key → IsOfBlocks key blocks o → 1 ≤ blocks
+pub takes_room : (key : List ℕ) (blocks : ℕ) (o : Option Doc) → IsKey key → IsOfBlocks key blocks o → 1 ≤ blocks
 takes_room key blocks None keyed h = absurd h
 takes_room key blocks (Some doc) keyed h = let own = own_block (length key) keyed.0 in let is = h.1 in omega arith
   where
@@ -92,7 +92,7 @@ get_active : (w : World) (key : List ℕ) (now : ℕ) → w.state ≡ Active
 get_active w key now active = sym (ap (λ (v : VbState). unless (state_refusal v true) (answer_get (live_of (get w.docs key) now))) active)
 
 -- and nothing where there is no document but a deleted one
-absent_live : (now : ℕ) (o : Option Doc) → IsAbsent o → live_of o now ≡ None
+pub absent_live : (now : ℕ) (o : Option Doc) → IsAbsent o → live_of o now ≡ None
 absent_live now None h = refl
 absent_live now (Some doc) h = ap (λ b. cond (not b && (doc.expiry == 0 || nat_lt (secs now) doc.expiry)) (Some doc) None) h
 

@@ -19,7 +19,8 @@ ghost use Rattle.vb_front.specs.Waits.{waited};
 ghost use Rattle.vb_front.specs.Priors.{key_in};
 ghost use Rattle.vb_front.specs.Writes.{seen_meta, shown_doc, text_at, is_away, HasText};
 ghost use Rattle.vb_front.specs.Writes.{write_over, write_waits, write_found, write_step};
-ghost use Rattle.vb_front.specs.Writes.{Comes, Leaves};
+ghost use Rattle.vb_front.specs.Reads.{KeepsStripe};
+ghost use Rattle.vb_front.specs.Writes.{Comes, Leaves, WriteIsLegal};
 
 use crate::get::{answer, refuse};
 use crate::part::StripePart;
@@ -217,7 +218,10 @@ fn write_away(
             wait::ask(&mut part.book, key)
         }
         Waited::Absent => write_over(part, queue, call, None, now, prior, value),
-        Waited::Refused(Cause::Quota) => match rules::own_refusal(puts::fit(&part.table, queue), call) {
+        Waited::Refused(Cause::Quota) => match rules::own_refusal(
+            puts::fit(&part.table, queue),
+            call,
+        ) {
             None => refuse(part, prior, Cause::Quota),
             Some(status) => answer(part, prior, Reply::refusal(status)),
         },
@@ -281,6 +285,9 @@ pub fn write(
         (key_in (call_data call.now)) now) part.new queue.new }
     ensures short { length value.new.bytes ≤ max_value }
     ensures room { value.new.spare + length value.new.bytes ≡ value.old.spare + length value.old.bytes }
+    ensures keeps { KeepsStripe part.old part.new }
+    ensures legal { WriteIsLegal part.old queue.old (call_data call.now) (key_in (call_data call.now)) now prior
+        (write_step part.old queue.old prior (call_data call.now) (key_in (call_data call.now)) now) part.new queue.new }
 {
     // what is so of every stripe is known here by this call
     let _free = part.table.free();
