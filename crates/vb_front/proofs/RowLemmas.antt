@@ -1,7 +1,6 @@
 -- What the rows of calls come to once no check refuses them.
-use Rattle.std.proofs.Common.{◌≡◌, ℕ, ◌+◌, Bool, true, false, cond, List, [], length, refl, sym, ap, subst, ◌∙◌, arith}
+use Rattle.std.proofs.Common.{◌≡◌, ℕ, ◌+◌, Bool, true, false, cond, List, [], length, refl, sym, ap, subst, ◌∙◌}
 use Rattle.std.specs.Prelude.{Option, Some, None, ◌==◌, ◌&&◌, decimal}
-use Rattle.std.proofs.lemmas.Bool.Decides.{nat_tests}
 use Rattle.std.specs.Option.{option_or}
 use Rattle.std.specs.Int.{w64, to_be_bytes}
 use Rattle.ep_model.specs.declared.call.Meta.{Meta}
@@ -99,9 +98,6 @@ touch_put w fetch key text expiration now live meta there differs is =
 pub touch_shows : (w : World) (fetch : Bool) (key text : List ℕ) (expiration now : ℕ) (live : Option Meta) (meta : Meta) → live ≡ Some meta → (stored_expiry expiration now == meta.expiry) ≡ true
     → answer_touch fetch w key expiration now (shown_doc text live) ≡ shows meta.cas (shown_flags fetch (doc_from meta text)) (shown_value fetch (doc_from meta text))
 touch_shows w fetch key text expiration now live meta there same = touch_over w fetch key text expiration now live meta there true same
-
-pub differs_test : (a b c : ℕ) → a ≡ c → (a ≡ b → ⊥) → (c == b) ≡ false
-differs_test a b c same differ = grind (arith, nat_tests)
 
 -- the value that a call shows whose document was put or had no room
 pub put_value : (part : StripePart) (prior : Option Ticket) (a : Answer) (key : List ℕ) (doc : Doc) (lacks : Bool) (placed : Option Reply)

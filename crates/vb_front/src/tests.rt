@@ -1,4 +1,6 @@
 // Calls on held parts, with their answers written out.
+mod writes;
+
 ghost use Rattle.std.specs.Prelude.{◌≡◌, ◌+◌, ◌≤◌, length};
 
 use crate::{Step, StripePart, read};
@@ -8,14 +10,14 @@ use fetch_book::{Book, Outcome};
 use hash_stripe::Stripe;
 use std::test::Fail;
 
-fn config(eviction: Eviction) -> Config
+fn config(eviction: Eviction, blocks: u32, ckpt_blocks: u32) -> Config
     ensures { result.stripes ≡ 1 }
 {
     Config {
         vbuckets: 1,
         stripes: 1,
-        blocks: 16,
-        ckpt_blocks: 16,
+        blocks,
+        ckpt_blocks,
         ckpt_max: 5,
         eviction,
         early: false,
@@ -40,7 +42,7 @@ fn get(part: &mut StripePart, prior: Option<Ticket>, value: &mut Out) -> Step
 
 #[test]
 fn get_waits_for_what_is_away(rt: HostRuntime) -> Result<(), Fail> {
-    let config = config(Eviction::Full);
+    let config = config(Eviction::Full, 16, 16);
     assert_eq!(rt; config.fault(), None);
     let mut part = StripePart {
         table: Stripe::new(rt.alloc(), 0, &config)?,

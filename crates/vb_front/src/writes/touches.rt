@@ -1,5 +1,5 @@
 // Touch and Get-and-touch.
-ghost use Rattle.std.specs.Prelude.{◌≡◌, ◌+◌, ◌≤◌, [], length, if◌then◌else◌};
+ghost use Rattle.std.specs.Prelude.{◌≡◌, ◌==◌, ◌+◌, ◌≤◌, [], length, if◌then◌else◌};
 ghost use Rattle.ep_model.specs.Limits.{IsKey, IsMoment, max_value};
 ghost use Rattle.ep_model.specs.Stripes.{stripe_of};
 ghost use Rattle.ep_model.specs.Answer.{answer_touch, shows};
@@ -22,6 +22,13 @@ fn flags_shown(flags: u32, fetch: bool) -> u32
     ensures { result ≡ if fetch then flags else 0 }
 {
     if fetch { flags } else { 0 }
+}
+
+/// Whether a document has this expiry already.
+fn expires_so(live: Meta, expiry: u32) -> bool
+    ensures { result ≡ (expiry == live.expiry) }
+{
+    expiry == live.expiry
 }
 
 /// The document stays, and is shown where its value is fetched.
@@ -99,7 +106,7 @@ pub(crate) fn touch(
         return answer(part, prior, Reply::refusal(KEY_NOT_FOUND));
     };
     let expiry = rules::stored_expiry(expiration, now);
-    if expiry == live.expiry {
+    if expires_so(live, expiry) {
         return show(part, prior, key, live, fetch, value);
     }
     if let Some(status) = rules::number_refusal(queue.high()) {

@@ -1,9 +1,10 @@
 use Rattle.std.proofs.Common.{◌≡◌, ℕ, List, false, cond, [], length, None, ap, sym, ◌∙◌, rules}
+use Rattle.std.specs.Prelude.{◌==◌}
 use Rattle.ep_model.specs.World.{doc_from, next_doc, stored_expiry}
 use Rattle.ep_model.specs.Refusals.{number_refusal}
 use Rattle.ep_model.specs.Answer.{Answer, put_success, answer_touch, shown_value, shown_flags}
 use Rattle.vb_front.specs.Writes.{shown_world, shown_doc, text_at, step_of, value_if, lacks_room, write_answer}
-use Rattle.vb_front.proofs.RowLemmas.{comes_as, touch_put, differs_test, put_value}
+use Rattle.vb_front.proofs.RowLemmas.{comes_as, touch_put, put_value}
 use Rattle.vb_front.proofs.writes.touches.touch.Goals as goal
 
 pub returns-clause-comes : goal.returns-clause-comes
@@ -12,6 +13,8 @@ returns-clause-comes c =
     let text = text_at c.args.part.now.table c.args.key.now in
     let live = c.in-Some.live in
     let none : number_refusal w.high ≡ None = search rules in
+    let differs : (stored_expiry c.args.expiration c.args.now == live.expiry) ≡ false =
+    ap (λ e. e == live.expiry) (sym c.stored_expiry-expiry.ensures) ∙ sym c.expires_so.ensures ∙ c.if-expires_so.false in
     let made : c.bytes.result.now ≡ text = search rules in
     let shown = shown_value c.args.fetch (doc_from live text) in
     comes_as c.args.part.now c.args.queue.now c.args.prior (put_success w c.args.key.now (next_doc w c.bytes.result.now live.flags c.stored_expiry-expiry.result false c.args.now) c.flags_shown-flags.result shown)
@@ -19,7 +22,7 @@ returns-clause-comes c =
     (ap (λ (t : List ℕ). put_success w c.args.key.now (next_doc w t live.flags c.stored_expiry-expiry.result false c.args.now) c.flags_shown-flags.result shown) made
     ∙ ap (λ e. put_success w c.args.key.now (next_doc w text live.flags e false c.args.now) c.flags_shown-flags.result shown) c.stored_expiry-expiry.ensures
     ∙ ap (λ n. put_success w c.args.key.now (next_doc w text live.flags (stored_expiry c.args.expiration c.args.now) false c.args.now) n shown) c.flags_shown-flags.ensures
-    ∙ sym (touch_put w c.args.fetch c.args.key.now text c.args.expiration c.args.now c.args.live live c.in-Some.is (differs_test _ _ _ c.stored_expiry-expiry.ensures c.if-expiry-live.false) none))
+    ∙ sym (touch_put w c.args.fetch c.args.key.now text c.args.expiration c.args.now c.args.live live c.in-Some.is differs none))
     (sym c.finish.ensures.step) (c.put-placed.ensures shown)
 
 pub returns-clause-value : goal.returns-clause-value
@@ -28,6 +31,8 @@ returns-clause-value c =
     let text = text_at c.args.part.now.table c.args.key.now in
     let live = c.in-Some.live in
     let none : number_refusal w.high ≡ None = search rules in
+    let differs : (stored_expiry c.args.expiration c.args.now == live.expiry) ≡ false =
+    ap (λ e. e == live.expiry) (sym c.stored_expiry-expiry.ensures) ∙ sym c.expires_so.ensures ∙ c.if-expires_so.false in
     let made : c.bytes.result.now ≡ text = search rules in
     let filled : c.value_to.new.out.bytes ≡ text = search rules in
     let shown = shown_value c.args.fetch (doc_from live text) in
@@ -39,4 +44,4 @@ returns-clause-value c =
     (ap (λ (t : List ℕ). put_success w c.args.key.now (next_doc w t live.flags c.stored_expiry-expiry.result false c.args.now) c.flags_shown-flags.result shown) made
     ∙ ap (λ e. put_success w c.args.key.now (next_doc w text live.flags e false c.args.now) c.flags_shown-flags.result shown) c.stored_expiry-expiry.ensures
     ∙ ap (λ n. put_success w c.args.key.now (next_doc w text live.flags (stored_expiry c.args.expiration c.args.now) false c.args.now) n shown) c.flags_shown-flags.ensures
-    ∙ sym (touch_put w c.args.fetch c.args.key.now text c.args.expiration c.args.now c.args.live live c.in-Some.is (differs_test _ _ _ c.stored_expiry-expiry.ensures c.if-expiry-live.false) none))
+    ∙ sym (touch_put w c.args.fetch c.args.key.now text c.args.expiration c.args.now c.args.live live c.in-Some.is differs none))
