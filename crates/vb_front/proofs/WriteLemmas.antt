@@ -30,9 +30,9 @@ use Rattle.ep_model.specs.Quota.{pinned, blocks_if, need, exceeds, is_overfull, 
 use Rattle.ep_model.specs.Front.{begun, world_of, with_event, marked}
 use Rattle.ep_model.specs.Legal.{IsServing, IsUnused, Caused, MayCall, May, IsLegal}
 use Rattle.hold_stage.specs.Waits.{IsNoRead}
-use Rattle.hold_stage.proofs.Views.{frame_after, or_true_left, or_true_right}
-use Rattle.hold_stage.proofs.Later.{world_step}
-use Rattle.hold_stage.proofs.Bounds.{marked_step}
+use Rattle.hold_stage.proofs.ViewLemmas.{frame_after, or_true_left, or_true_right}
+use Rattle.hold_stage.proofs.LaterLemmas.{world_step}
+use Rattle.hold_stage.proofs.BoundLemmas.{marked_step}
 use Rattle.hash_stripe.specs.Nodes.{NodeData, Slot, at, node_at, slot_for, with_slot, placed, others_pinned, Restores, EjectsOthers}
 use Rattle.hash_stripe.specs.Stripes.{StripeData, IsStripe, found, found_value}
 use Rattle.hash_stripe.specs.Laws.{IsRestored}
