@@ -1,10 +1,11 @@
-//! The outside of the program as traits: where bytes come from, where they go, and what time it is. Beside each
-//! trait stands a form in memory, which tells its bytes or moments, and an adapter over the real thing.
+//! The outside of the program as traits: where bytes come from, where they go, what time it is, and what calls pass on their
+//! way. Beside the first three stands a form in memory, which tells its bytes or moments, and an adapter over the real thing.
 #![tactic(auto)]
 
 mod clock;
 mod data;
 mod failures;
+mod gate;
 mod memory_clock;
 mod memory_sink;
 mod memory_source;
@@ -18,6 +19,7 @@ pub use clock::Clock;
 pub use data::{
     ClockData, FailuresData, ReaderData, SinkData, SourceData, SystemClockData, WriterData,
 };
+pub use gate::{Gate, OpenGate, Point};
 pub use memory_clock::MemoryClock;
 pub use memory_sink::MemorySink;
 pub use memory_source::MemorySource;
