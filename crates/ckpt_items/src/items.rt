@@ -49,7 +49,8 @@ impl Items {
     /// No items, over so many blocks. Its cost is linear in their number.
     pub fn new(alloc: Global, blocks: u32) -> Result<Items, NoMemory>
         requires { blocks ≤ 16777216 }
-        ensures { IfOk result (λ items. items ≡ record { closed = []; last = []; blocks = blocks }) }
+        ensures { IfOk result (λ items.
+            items ≡ record { closed = []; last = []; blocks = blocks }) }
     {
         let Ok(pool) = Pool::new(alloc, blocks) else {
             return Err(NoMemory);
@@ -78,9 +79,13 @@ impl Items {
         requires len { meta.len ≡ length value.now }
         requires above { All (λ (i : ItemData). i.meta.seqno < meta.seqno) (all_items self.old) }
         requires absent { find (is_of key.now) self.old.last ≡ None }
-        ensures ok { OnOk result (self.new ≡ record self.old { last = self.old.last ++ record { key = key.now; meta = meta; value = value.now } ∷ [] }) }
-        ensures short { IsErr result ↔ (free_of self.old < blocks (length key.now) + blocks (length value.now)) }
-        ensures told { IfErr result (λ s. (s.free ≡ free_of self.old) × (s.need ≡ blocks (length key.now) + blocks (length value.now))) }
+        ensures ok { OnOk result (self.new ≡ record self.old {
+          last = self.old.last ++ record { key = key.now; meta = meta; value = value.now } ∷ [];
+        }) }
+        ensures short { IsErr result ↔ (free_of self.old < blocks (length key.now)
+            + blocks (length value.now)) }
+        ensures told { IfErr result (λ s. (s.free ≡ free_of self.old)
+            × (s.need ≡ blocks (length key.now) + blocks (length value.now))) }
         ensures err { OnErr result (self.new ≡ self.old) }
     {
         let need = blocks(key.len() as u32) + blocks(value.len() as u32);
@@ -98,7 +103,10 @@ impl Items {
     /// linear in the items before it or behind it, whichever are fewer.
     pub fn drop_item(&mut self, seqno: u64)
         requires { IsSome (find (has_number seqno) (all_items self.old)) }
-        ensures { self.new ≡ record self.old { closed = without_number self.old.closed seqno; last = without_number self.old.last seqno } }
+        ensures { self.new ≡ record self.old {
+          closed = without_number self.old.closed seqno;
+          last = without_number self.old.last seqno;
+        } }
     {
         match place(&self.items, seqno) {
             Some(index) => {
@@ -136,7 +144,8 @@ impl Items {
 
     /// The metadata of the item with this number, in time logarithmic in the items.
     pub fn meta(&self, seqno: u64) -> Option<Meta>
-        ensures { result ≡ option_map (λ (i : ItemData). i.meta) (find (has_number seqno) (all_items self.now)) }
+        ensures { result ≡ option_map (λ (i : ItemData). i.meta)
+            (find (has_number seqno) (all_items self.now)) }
     {
         match place(&self.items, seqno) {
             Some(index) => Some(self.items[index].meta),

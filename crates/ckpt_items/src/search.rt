@@ -15,8 +15,10 @@ use value_pool::Pool;
 fn below(items: &VecDeque<Item>, seqno: u64) -> usize
     requires { IsRising items.now.items }
     ensures bound { result ≤ length items.now.items }
-    ensures before { (k : ℕ) (d : Item) → k < result → (slice_index_or items.now.items k d).meta.seqno < seqno }
-    ensures behind { (k : ℕ) (d : Item) → result ≤ k → k < length items.now.items → seqno ≤ (slice_index_or items.now.items k d).meta.seqno }
+    ensures before { (k : ℕ) (d : Item) → k < result
+        → (slice_index_or items.now.items k d).meta.seqno < seqno }
+    ensures behind { (k : ℕ) (d : Item) → result ≤ k → k < length items.now.items → seqno
+        ≤ (slice_index_or items.now.items k d).meta.seqno }
 {
     items.partition_point(|item| item.meta.seqno < seqno)
 }
@@ -25,8 +27,10 @@ fn below(items: &VecDeque<Item>, seqno: u64) -> usize
 pub fn up_to(items: &VecDeque<Item>, seqno: u64) -> usize
     requires { IsRising items.now.items }
     ensures bound { result ≤ length items.now.items }
-    ensures before { (k : ℕ) (d : Item) → k < result → (slice_index_or items.now.items k d).meta.seqno ≤ seqno }
-    ensures behind { (k : ℕ) (d : Item) → result ≤ k → k < length items.now.items → seqno < (slice_index_or items.now.items k d).meta.seqno }
+    ensures before { (k : ℕ) (d : Item) → k < result
+        → (slice_index_or items.now.items k d).meta.seqno ≤ seqno }
+    ensures behind { (k : ℕ) (d : Item) → result ≤ k → k < length items.now.items → seqno
+        < (slice_index_or items.now.items k d).meta.seqno }
 {
     items.partition_point(|item| item.meta.seqno <= seqno)
 }
@@ -57,7 +61,8 @@ fn has_key(item: &Item, pool: &Pool, key: &[u8]) -> bool
 // The number of the first item from the place `from` on that has this key. It looks at one item after the other.
 pub fn find_from(items: &VecDeque<Item>, pool: &Pool, from: usize, key: &[u8]) -> Option<u64>
     requires { from ≤ length items.now.items }
-    ensures { result ≡ number_of (find (is_of key.now) (drop from (datas pool.now items.now.items))) }
+    ensures { result ≡ number_of (find (is_of key.now)
+        (drop from (datas pool.now items.now.items))) }
 {
     for index in from..items.len() {
         let item = &items[index];

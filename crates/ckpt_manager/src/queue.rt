@@ -220,8 +220,10 @@ impl Queue {
         requires stamp { meta.cas ≤ end_of_moments + self.old.high + 1 }
         ensures number { result ≡ self.old.high + 1 }
         ensures after { self.new ≡ queued self.old key.now meta value.now }
-        ensures kept { blocks_of_items (kept self.new) ≡ kept_with self.old key.now (length value.now) }
-        ensures last { LastIs self.old self.new (item_of key.now meta value.now (self.old.high + 1)) }
+        ensures kept { blocks_of_items (kept self.new)
+            ≡ kept_with self.old key.now (length value.now) }
+        ensures last { LastIs self.old self.new
+            (item_of key.now meta value.now (self.old.high + 1)) }
     {
         self.clear(key);
         let number = self.next_number();

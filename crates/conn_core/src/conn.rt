@@ -32,7 +32,8 @@ impl Conn {
 
     /// A connection with empty buffers and no feature.
     pub fn new(alloc: Global) -> Result<Conn, NoMemory>
-        ensures { IfOk result (λ conn. IsNew conn × (conn.out.spare ≡ out_room) × (conn.value.spare ≡ value_room)) }
+        ensures { IfOk result (λ conn. IsNew conn × (conn.out.spare ≡ out_room)
+            × (conn.value.spare ≡ value_room)) }
     {
         Ok(Conn {
             out: Out::new(alloc, OUT_ROOM)?,
@@ -59,9 +60,12 @@ impl Conn {
         requires { answer_room ≤ self.old.out.spare }
         ensures act { act_data result ≡ act_of vbuckets (frame_data frame.now) }
         ensures ready { IsReady (frame_data frame.now) (act_of vbuckets (frame_data frame.now)) }
-        ensures text { self.new.out.bytes ≡ self.old.out.bytes ++ own_text vbuckets (frame_data frame.now) }
-        ensures room { self.new.out.spare + length self.new.out.bytes ≡ self.old.out.spare + length self.old.out.bytes }
-        ensures features { self.new.features ≡ features_after self.old.features (frame_data frame.now) }
+        ensures text { self.new.out.bytes ≡ self.old.out.bytes
+            ++ own_text vbuckets (frame_data frame.now) }
+        ensures room { self.new.out.spare + length self.new.out.bytes ≡ self.old.out.spare
+            + length self.old.out.bytes }
+        ensures features { self.new.features ≡ features_after self.old.features
+            (frame_data frame.now) }
         ensures value { self.new.value ≡ self.old.value }
     {
         match read_call(frame) {
@@ -103,7 +107,8 @@ impl Conn {
 // Appends the answer to a Hello: the codes that it was granted.
 fn put_granted(out: &mut Out, frame: &Frame, features: Features)
     requires { HEADER + 2 ≤ out.old.spare }
-    ensures bytes { out.new.bytes ≡ out.old.bytes ++ value_text (frame_data frame.now) (granted features) }
+    ensures bytes { out.new.bytes ≡ out.old.bytes
+        ++ value_text (frame_data frame.now) (granted features) }
     ensures room { out.new.spare + length out.new.bytes ≡ out.old.spare + length out.old.bytes }
 {
     if features.seqno {
@@ -116,7 +121,9 @@ fn put_granted(out: &mut Out, frame: &Frame, features: Features)
 // Appends the answer to a Quit, unless it is quiet.
 fn put_quit(out: &mut Out, frame: &Frame)
     requires { HEADER ≤ out.old.spare }
-    ensures bytes { out.new.bytes ≡ out.old.bytes ++ (if is_silent frame.now.opcode success then [] else status_text (frame_data frame.now) success) }
+    ensures bytes { out.new.bytes ≡ out.old.bytes
+        ++ (if is_silent frame.now.opcode success then [] else status_text (frame_data frame.now)
+        success) }
     ensures room { out.new.spare + length out.new.bytes ≡ out.old.spare + length out.old.bytes }
 {
     if !is_silent(frame.opcode, status::SUCCESS) {

@@ -16,8 +16,8 @@ use Rattle.ep_drill.specs.declared.data.FetchedData.{FetchedData}
 use Rattle.ep_drill.specs.declared.data.FoundData.{FoundData}
 use Rattle.ep_drill.specs.declared.data.FoundData.TheVariants as founds
 use Rattle.ep_drill.specs.declared.fetched.Fetched.{Fetched}
-use Rattle.ep_drill.specs.declared.fetched.Found.{Found}
-use Rattle.ep_drill.specs.declared.fetched.Found.TheVariants as found
+use Rattle.ep_drill.specs.declared.fetched.ReadFound.{ReadFound}
+use Rattle.ep_drill.specs.declared.fetched.ReadFound.TheVariants as found
 use Rattle.ep_drill.specs.declared.fetch.Merging.{Merging}
 use Rattle.ep_drill.specs.declared.fetch.Merging.TheVariants as mergings
 use Rattle.ep_drill.specs.declared.part.Part.{Part}
@@ -33,7 +33,7 @@ use Rattle.ep_drill.specs.Stands.{FetchedStands}
 use Rattle.ep_drill.specs.Parts.{Becomes}
 
 -- what was read, without where its bytes lie
-abbrev pub found_data : Found → FoundData
+abbrev pub found_data : ReadFound → FoundData
 found_data (found.Row row) = founds.Row (doc_from row.meta row.value.items)
 found_data found.Absent = founds.Absent
 found_data (found.Failed fault) = founds.Failed fault

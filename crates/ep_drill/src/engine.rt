@@ -81,7 +81,8 @@ impl<K: Keeper> Core<K> {
     fn take_batch(&mut self, alloc: Global, vb: u16) -> Answer
         ensures interleaves { Interleaves self.new }
         ensures goes_on { GoesOn self.old self.new }
-        ensures taken { IsBenched self.old self.new vb (IsNoBucket self.old vb) (TakesAt self.old.config vb) result }
+        ensures taken { IsBenched self.old self.new vb (IsNoBucket self.old vb)
+            (TakesAt self.old.config vb) result }
     {
         let Some(bench) = self.benches.get_mut(usize::from(vb)) else {
             return Answer::Nothing;
@@ -93,8 +94,10 @@ impl<K: Keeper> Core<K> {
     fn commit(&mut self, alloc: Global, vb: u16) -> Result<Answer, NoMemory>
         ensures interleaves { Interleaves self.new }
         ensures goes_on { GoesOn self.old self.new }
-        ensures committed { IfOk result (IsBenched self.old self.new vb (IsNoBucket self.old vb) (CommitsAt self.old.config vb)) }
-        ensures err { OnErr result (Spares self.old self.new × BenchIs self.old vb (λ bench. IsSome bench.batch) × LacksRoom self.old.world) }
+        ensures committed { IfOk result (IsBenched self.old self.new vb (IsNoBucket self.old vb)
+            (CommitsAt self.old.config vb)) }
+        ensures err { OnErr result (Spares self.old self.new × BenchIs self.old vb
+            (λ bench. IsSome bench.batch) × LacksRoom self.old.world) }
     {
         let Some(bench) = self.benches.get_mut(usize::from(vb)) else {
             return Ok(Answer::Nothing);
@@ -106,8 +109,10 @@ impl<K: Keeper> Core<K> {
     fn mark(&mut self, vb: u16, stripe: u16) -> Result<Answer, NoMemory>
         ensures interleaves { Interleaves self.new }
         ensures goes_on { GoesOn self.old self.new }
-        ensures marked { IfOk result (IsBenched self.old self.new vb (IsNowhere self.old vb stripe) (MarksAt self.old.config vb stripe)) }
-        ensures err { OnErr result (Spares self.old self.new × (vb < self.old.config.vbuckets) × (stripe < self.old.config.stripes) × LacksRoom self.old.world) }
+        ensures marked { IfOk result (IsBenched self.old self.new vb (IsNowhere self.old vb stripe)
+            (MarksAt self.old.config vb stripe)) }
+        ensures err { OnErr result (Spares self.old self.new × (vb < self.old.config.vbuckets)
+            × (stripe < self.old.config.stripes) × LacksRoom self.old.world) }
     {
         let Some(bench) = self.benches.get(usize::from(vb)) else {
             return Ok(Answer::Nothing);
@@ -134,8 +139,11 @@ impl<K: Keeper> Core<K> {
     fn read(&mut self, alloc: Global, vb: u16, stripe: u16) -> Result<Answer, NoMemory>
         ensures interleaves { Interleaves self.new }
         ensures goes_on { GoesOn self.old self.new }
-        ensures read { IfOk result (IsBenched self.old self.new vb (IsNowhere self.old vb stripe) (FetchesAt self.old.config vb stripe)) }
-        ensures err { OnErr result (Spares self.old self.new × BenchIs self.old vb (λ bench. bench.desk.doubt ≡ None) × HasWaiting (part_in self.old.world vb (Stripe stripe))) }
+        ensures read { IfOk result (IsBenched self.old self.new vb (IsNowhere self.old vb stripe)
+            (FetchesAt self.old.config vb stripe)) }
+        ensures err { OnErr result (Spares self.old self.new × BenchIs self.old vb
+            (λ bench. bench.desk.doubt ≡ None)
+            × HasWaiting (part_in self.old.world vb (Stripe stripe))) }
     {
         let Some(bench) = self.benches.get_mut(usize::from(vb)) else {
             return Ok(Answer::Nothing);
@@ -158,8 +166,11 @@ impl<K: Keeper> Core<K> {
     fn merge(&mut self, vb: u16, stripe: u16) -> Result<Answer, NoMemory>
         ensures interleaves { Interleaves self.new }
         ensures goes_on { GoesOn self.old self.new }
-        ensures merged { IfOk result (IsBenched self.old self.new vb (IsNowhere self.old vb stripe) (MergesAt self.old.config vb stripe)) }
-        ensures err { OnErr result (Spares self.old self.new × (stripe < self.old.config.stripes) × BenchIs self.old vb (λ bench. slice_get bench.reads stripe ≡ Some None → ⊥) × LacksRoom self.old.world) }
+        ensures merged { IfOk result (IsBenched self.old self.new vb (IsNowhere self.old vb stripe)
+            (MergesAt self.old.config vb stripe)) }
+        ensures err { OnErr result (Spares self.old self.new × (stripe < self.old.config.stripes)
+            × BenchIs self.old vb (λ bench. slice_get bench.reads stripe ≡ Some None → ⊥)
+            × LacksRoom self.old.world) }
     {
         let Some(bench) = self.benches.get_mut(usize::from(vb)) else {
             return Ok(Answer::Nothing);
@@ -180,6 +191,7 @@ impl<K: Keeper> Core<K> {
         ensures stepped { IfOk result (Stepped self.old self.new choice) }
         ensures err { OnErr result (Spares self.old self.new × TakesMemory self.old choice) }
     {
+        // what is so of this core is known by a read of its layout
         let _ = &self.config;
         match choice {
             StepChoice::Front { caller, now } => self.front(alloc, caller, now),
@@ -213,6 +225,7 @@ pub fn run_steps<K: Keeper>(
     ensures ran { IfOk result (λ answers. Ran core.old core.new steps.now answers.items) }
     ensures err { OnErr result (RanSome core.old core.new steps.now) }
 {
+    // what is so of this core is known by a read of its layout
     let _ = &core.config;
     let Ok(mut answers) = Vec::with_capacity(alloc, steps.len()) else {
         return Err(NoMemory);

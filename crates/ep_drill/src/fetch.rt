@@ -15,7 +15,7 @@ ghost use Rattle.ep_drill.specs.Stands.{StripeStands, DeskStands, FetchedStands}
 ghost use Rattle.ep_drill.specs.Calls.{AreHome, HasRoom, KeptBut};
 ghost use Rattle.ep_drill.specs.Fetches.{found_data, fetched_data, settles, IsOldest, IsRoom, IsFoundIn, IsBack, IsRead, IsMerged, Reads, WantsRead, ReadsOldest, HasWaiting};
 
-pub use crate::fetched::{Fetched, Found, Row};
+pub use crate::fetched::{Fetched, ReadFound, Row};
 use crate::hold::{take_desk, take_stripe};
 use crate::part::Part;
 use ep_model::limits::MAX_VALUE;
@@ -80,22 +80,24 @@ fn read_found<K: Keeper>(
     key: &[u8],
     room: Vec<u8>,
     value: &mut Out,
-) -> Found
+) -> ReadFound
     requires sure { IsSure desk.old }
     requires key { IsKey key.now }
     requires room { IsRoom room }
     requires value { max_value ≤ value.old.spare + length value.old.bytes }
-    ensures found { (c : Content) → desk.old.keeper.content ≡ Some c → IsFoundIn c key.now (found_data result) }
+    ensures found { (c : Content) → desk.old.keeper.content ≡ Some c
+        → IsFoundIn c key.now (found_data result) }
     ensures reads { Reads desk.old desk.new (found_data result) }
     ensures memory { WantsRead desk.old (found_data result) }
-    ensures value { value.new.spare + length value.new.bytes ≡ value.old.spare + length value.old.bytes }
+    ensures value { value.new.spare + length value.new.bytes ≡ value.old.spare
+        + length value.old.bytes }
 {
     value.cut(0);
     match desk.get(alloc, key, value) {
-        Kept::Good(Some(meta)) => Found::Row(row_in(room, meta, value.bytes())),
-        Kept::Good(None) => Found::Absent,
-        Kept::Failed => Found::Failed(desk.read_faults()),
-        Kept::NoMemory => Found::NoMemory,
+        Kept::Good(Some(meta)) => ReadFound::Row(row_in(room, meta, value.bytes())),
+        Kept::Good(None) => ReadFound::Absent,
+        Kept::Failed => ReadFound::Failed(desk.read_faults()),
+        Kept::NoMemory => ReadFound::NoMemory,
     }
 }
 
@@ -120,8 +122,10 @@ pub(crate) fn fetch_read<S: Stage<Part = Part>, K: Keeper>(
     ensures front { S.front stage.new ≡ S.front stage.old }
     ensures oldest { IfOk result (ReadsOldest (S.tells stage.old (Stripe stripe))) }
     ensures read { IfOk result (IsRead (S.front stage.old) stripe desk.old desk.new) }
-    ensures err { OnErr result ((desk.new ≡ desk.old) × HasWaiting (S.tells stage.old (Stripe stripe))) }
-    ensures parts { (p : PartName) → there (S.front stage.old).config p ≡ true → S.tells stage.new p ≡ S.tells stage.old p }
+    ensures err { OnErr result ((desk.new ≡ desk.old)
+        × HasWaiting (S.tells stage.old (Stripe stripe))) }
+    ensures parts { (p : PartName) → there (S.front stage.old).config p ≡ true → S.tells stage.new p
+        ≡ S.tells stage.old p }
     ensures free { Same (S.holds stage.new) (S.holds stage.old) }
     ensures home { AreHome (S.front stage.old).config (S.tells stage.new) }
     ensures value { value.new.spare + length value.new.bytes ≡ max_value }
@@ -162,11 +166,15 @@ fn settle<S: Stage<Part = Part>>(
     outcome: Outcome,
 )
     requires held { S.holds stage.old (Stripe ticket.stripe) ≡ true }
-    requires stands { StripeStands (S.front stage.old) ticket.stripe (settles part ticket.number outcome) }
+    requires stands { StripeStands (S.front stage.old) ticket.stripe
+        (settles part ticket.number outcome) }
     ensures stays { Stays S.lent S.fixed S.number S.is_desk S.is_telling stage.old stage.new }
     ensures front { S.front stage.new ≡ S.front stage.old }
     ensures held { Same (S.holds stage.new) (but_this (Stripe ticket.stripe) (S.holds stage.old)) }
-    ensures tells { S.is_telling stage.old ≡ true → (p : PartName) → there (S.front stage.old).config p ≡ true → S.tells stage.new p ≡ (if same_part (Stripe ticket.stripe) p then Some (Part.Stripe (settles part ticket.number outcome)) else S.tells stage.old p) }
+    ensures tells { S.is_telling stage.old ≡ true → (p : PartName)
+        → there (S.front stage.old).config p ≡ true → S.tells stage.new p
+        ≡ (if same_part (Stripe ticket.stripe) p then Some
+        (Part.Stripe (settles part ticket.number outcome)) else S.tells stage.old p) }
 {
     part.settle(ticket.number, outcome);
     stage.give(PartName::Stripe(ticket.stripe), Part::Stripe(part));
@@ -184,8 +192,11 @@ pub(crate) fn fetch_merge<S: Stage<Part = Part>>(stage: &mut S, fetched: Fetched
     requires free { IsNone (S.holds stage.old) }
     requires room { HasRoom 0 (S.covers stage.old) }
     ensures stays { Stays S.lent S.fixed S.number S.is_desk S.is_telling stage.old stage.new }
-    ensures merged { IsMerged (S.front stage.old) (S.front stage.new) (S.tells stage.old (Stripe fetched.ticket.stripe)) (S.tells stage.new (Stripe fetched.ticket.stripe)) (fetched_data fetched) result }
-    ensures kept { KeptBut (S.front stage.old).config (is_stripe fetched.ticket.stripe) (S.tells stage.old) (S.tells stage.new) }
+    ensures merged { IsMerged (S.front stage.old) (S.front stage.new)
+        (S.tells stage.old (Stripe fetched.ticket.stripe))
+        (S.tells stage.new (Stripe fetched.ticket.stripe)) (fetched_data fetched) result }
+    ensures kept { KeptBut (S.front stage.old).config (is_stripe fetched.ticket.stripe)
+        (S.tells stage.old) (S.tells stage.new) }
     ensures free { Same (S.holds stage.new) (S.holds stage.old) }
     ensures home { AreHome (S.front stage.old).config (S.tells stage.new) }
 {
@@ -196,7 +207,7 @@ pub(crate) fn fetch_merge<S: Stage<Part = Part>>(stage: &mut S, fetched: Fetched
         return Merging::Stale;
     }
     match found {
-        Found::Row(row) => {
+        ReadFound::Row(row) => {
             if put_back(&mut part, &key, row) {
                 settle(stage, part, ticket, Outcome::Merged);
                 Merging::Merged
@@ -205,11 +216,11 @@ pub(crate) fn fetch_merge<S: Stage<Part = Part>>(stage: &mut S, fetched: Fetched
                 Merging::Absent
             }
         }
-        Found::Absent => {
+        ReadFound::Absent => {
             settle(stage, part, ticket, Outcome::Absent);
             Merging::Absent
         }
-        Found::Failed(fault) => {
+        ReadFound::Failed(fault) => {
             // A failed read touches the desk too.
             let desk = take_desk(stage);
             stage.note(&Event::ReadFailed { ticket, fault });
@@ -217,7 +228,7 @@ pub(crate) fn fetch_merge<S: Stage<Part = Part>>(stage: &mut S, fetched: Fetched
             settle(stage, part, ticket, Outcome::Failed(fault));
             Merging::Failed
         }
-        Found::NoMemory => {
+        ReadFound::NoMemory => {
             settle(stage, part, ticket, Outcome::NoMemory);
             Merging::NoMemory
         }

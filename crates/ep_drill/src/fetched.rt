@@ -15,7 +15,7 @@ pub struct Row {
 
 /// What a read of the store found.
 #[derive(Drop)]
-pub enum Found {
+pub enum ReadFound {
     Row(Row),
     Absent,
     /// The store failed, the desk's count of read faults then being this one.
@@ -28,5 +28,5 @@ pub enum Found {
 pub struct Fetched {
     pub ticket: Ticket,
     pub key: Vec<u8>,
-    pub found: Found,
+    pub found: ReadFound,
 }

@@ -29,7 +29,8 @@ pub(crate) fn take_stripe<S: Stage<Part = Part>>(stage: &mut S, stripe: u16) -> 
     ensures was_there { S.tells stage.old (Stripe stripe) ≡ Some (Part.Stripe result) }
     ensures stands { StripeStands (S.front stage.new) stripe result }
     ensures held { Same (S.holds stage.new) (and_this (Stripe stripe) (S.holds stage.old)) }
-    ensures tells { (p : PartName) → there (S.front stage.old).config p ≡ true → S.tells stage.new p ≡ (if same_part (Stripe stripe) p then None else S.tells stage.old p) }
+    ensures tells { (p : PartName) → there (S.front stage.old).config p ≡ true → S.tells stage.new p
+        ≡ (if same_part (Stripe stripe) p then None else S.tells stage.old p) }
 {
     match stage.take(PartName::Stripe(stripe)) {
         Ok(Part::Stripe(part)) => part,
@@ -48,14 +49,23 @@ pub(crate) fn try_take_stripe<S: Stage<Part = Part>>(
     requires free { S.holds stage.old (Stripe stripe) ≡ false }
     ensures stays { Stays S.lent S.fixed S.number S.is_desk S.is_telling stage.old stage.new }
     ensures room { (n b : ℕ) → S.covers stage.old n b → S.covers stage.new n b }
-    ensures grown { Grown (S.front stage.old) (S.front stage.new) (S.holds stage.old) (S.number stage.old) (S.is_desk stage.old) }
+    ensures grown { Grown (S.front stage.old) (S.front stage.new) (S.holds stage.old)
+        (S.number stage.old) (S.is_desk stage.old) }
     ensures legal { IsLegal (S.front stage.new) }
     ensures kept { Keeps part_stands (S.holds stage.old) (S.front stage.old) (S.front stage.new) }
-    ensures taken { MatchResult result (λ x. StripeStands (S.front stage.new) stripe x × (S.losses stage.new ≡ S.losses stage.old)) (λ b. (b.part ≡ Stripe stripe) × Rose (S.losses stage.old) (S.losses stage.new)) }
-    ensures held { MatchResult result (λ _. Same (S.holds stage.new) (and_this (Stripe stripe) (S.holds stage.old))) (λ _. Same (S.holds stage.new) (S.holds stage.old)) }
+    ensures taken { MatchResult result (λ x. StripeStands (S.front stage.new) stripe x
+        × (S.losses stage.new ≡ S.losses stage.old))
+        (λ b. (b.part ≡ Stripe stripe) × Rose (S.losses stage.old) (S.losses stage.new)) }
+    ensures held { MatchResult result (λ _. Same (S.holds stage.new)
+        (and_this (Stripe stripe) (S.holds stage.old)))
+        (λ _. Same (S.holds stage.new) (S.holds stage.old)) }
     ensures alone { S.is_telling stage.old ≡ true → S.front stage.new ≡ S.front stage.old }
-    ensures was_there { S.is_telling stage.old ≡ true → MatchResult result (λ x. S.tells stage.old (Stripe stripe) ≡ Some (Part.Stripe x)) (λ _. S.tells stage.old (Stripe stripe) ≡ None) }
-    ensures tells { S.is_telling stage.old ≡ true → (p : PartName) → there (S.front stage.old).config p ≡ true → S.tells stage.new p ≡ (if same_part (Stripe stripe) p then None else S.tells stage.old p) }
+    ensures was_there { S.is_telling stage.old ≡ true → MatchResult result
+        (λ x. S.tells stage.old (Stripe stripe) ≡ Some (Part.Stripe x))
+        (λ _. S.tells stage.old (Stripe stripe) ≡ None) }
+    ensures tells { S.is_telling stage.old ≡ true → (p : PartName)
+        → there (S.front stage.old).config p ≡ true → S.tells stage.new p
+        ≡ (if same_part (Stripe stripe) p then None else S.tells stage.old p) }
 {
     match stage.take(PartName::Stripe(stripe)) {
         Ok(Part::Stripe(part)) => Ok(part),
@@ -77,7 +87,8 @@ pub(crate) fn take_queue<S: Stage<Part = Part>>(stage: &mut S) -> FlatQueue
     ensures was_there { S.tells stage.old Queue ≡ Some (Part.Queue result) }
     ensures stands { QueueStands (S.front stage.new) result }
     ensures held { Same (S.holds stage.new) (and_this Queue (S.holds stage.old)) }
-    ensures tells { (p : PartName) → there (S.front stage.old).config p ≡ true → S.tells stage.new p ≡ (if same_part Queue p then None else S.tells stage.old p) }
+    ensures tells { (p : PartName) → there (S.front stage.old).config p ≡ true → S.tells stage.new p
+        ≡ (if same_part Queue p then None else S.tells stage.old p) }
 {
     match stage.take(PartName::Queue) {
         Ok(Part::Queue(part)) => part,
@@ -99,7 +110,8 @@ pub(crate) fn take_desk<S: Stage<Part = Part>>(stage: &mut S) -> DeskPart
     ensures was_there { S.tells stage.old Desk ≡ Some (Part.Desk result) }
     ensures stands { result.persisted ≡ (world_of (S.front stage.new)).persisted }
     ensures held { Same (S.holds stage.new) (and_this Desk (S.holds stage.old)) }
-    ensures tells { (p : PartName) → there (S.front stage.old).config p ≡ true → S.tells stage.new p ≡ (if same_part Desk p then None else S.tells stage.old p) }
+    ensures tells { (p : PartName) → there (S.front stage.old).config p ≡ true → S.tells stage.new p
+        ≡ (if same_part Desk p then None else S.tells stage.old p) }
 {
     match stage.take(PartName::Desk) {
         Ok(Part::Desk(part)) => part,

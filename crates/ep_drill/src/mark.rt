@@ -41,13 +41,21 @@ pub(crate) fn mark_once<S: Stage<Part = Part>, K: Keeper>(
     requires noted { desk.now.noted ≡ (world_of (S.front stage.old)).persisted }
     requires room { S.covers stage.old 1 0 }
     ensures stays { Stays S.lent S.fixed S.number S.is_desk S.is_telling stage.old stage.new }
-    ensures went { Went (S.front stage.old) (S.front stage.new) (S.holds stage.old) (S.number stage.old) (S.is_desk stage.old) (marked_by stripe desk.now.noted result) }
-    ensures room { LeavesRoom (S.covers stage.old) (S.covers stage.new) (marked_by stripe desk.now.noted result) }
-    ensures marked { HasMarked (S.front stage.new) stripe desk.now.noted (S.losses stage.old) (S.losses stage.new) result }
+    ensures went { Went (S.front stage.old) (S.front stage.new) (S.holds stage.old)
+        (S.number stage.old) (S.is_desk stage.old) (marked_by stripe desk.now.noted result) }
+    ensures room { LeavesRoom (S.covers stage.old) (S.covers stage.new)
+        (marked_by stripe desk.now.noted result) }
+    ensures marked { HasMarked (S.front stage.new) stripe desk.now.noted (S.losses stage.old)
+        (S.losses stage.new) result }
     ensures held { Same (S.holds stage.new) (S.holds stage.old) }
-    ensures alone { S.is_telling stage.old ≡ true → S.front stage.new ≡ with_noted (S.front stage.old) (marked_by stripe desk.now.noted result) }
-    ensures becomes { S.is_telling stage.old ≡ true → MarksPart (S.tells stage.old (Stripe stripe)) (S.tells stage.new (Stripe stripe)) desk.now.noted result }
-    ensures kept { S.is_telling stage.old ≡ true → KeptBut (S.front stage.old).config (is_stripe stripe) (S.tells stage.old) (S.tells stage.new) }
+    ensures alone { S.is_telling stage.old ≡ true → S.front stage.new
+        ≡ with_noted (S.front stage.old) (marked_by stripe desk.now.noted result) }
+    ensures becomes { S.is_telling stage.old ≡ true
+        → MarksPart (S.tells stage.old (Stripe stripe)) (S.tells stage.new (Stripe stripe))
+        desk.now.noted result }
+    ensures kept { S.is_telling stage.old ≡ true
+        → KeptBut (S.front stage.old).config (is_stripe stripe) (S.tells stage.old)
+        (S.tells stage.new) }
 {
     let number = desk.noted();
     let mut part = match try_take_stripe(stage, stripe) {

@@ -32,9 +32,11 @@ fn take_stripes<S: Stage<Part = Part>>(stage: &mut S, stripes: u16)
     ensures room { (n b : ℕ) → S.covers stage.old n b → S.covers stage.new n b }
     ensures front { S.front stage.new ≡ S.front stage.old }
     ensures held { (p : PartName) → S.holds stage.new p ≡ is_below stripes p }
-    ensures tells { (p : PartName) → there (S.front stage.old).config p ≡ true → is_below stripes p ≡ false → S.tells stage.new p ≡ S.tells stage.old p }
+    ensures tells { (p : PartName) → there (S.front stage.old).config p ≡ true → is_below stripes p
+        ≡ false → S.tells stage.new p ≡ S.tells stage.old p }
 {
     for stripe in 0..stripes {
+        // the empty part gives way to one that has opened
         let _part = take_stripe(stage, stripe);
     }
 }
@@ -51,6 +53,7 @@ fn take_all<S: Stage<Part = Part>>(stage: &mut S, stripes: u16)
     ensures held { (p : PartName) → S.holds stage.new p ≡ there (S.front stage.old).config p }
 {
     take_stripes(stage, stripes);
+    // so do the others
     let _queue = take_queue(stage);
     let _desk = take_desk(stage);
 }
@@ -63,7 +66,8 @@ fn give_stripes<S: Stage<Part = Part>>(alloc: Global, stage: &mut S, stripes: u1
     requires held { (p : PartName) → S.holds stage.old p ≡ there (S.front stage.old).config p }
     ensures stays { Stays S.lent S.fixed S.number S.is_desk S.is_telling stage.old stage.new }
     ensures front { S.front stage.new ≡ S.front stage.old }
-    ensures held { (p : PartName) → S.holds stage.new p ≡ (not (is_below stripes p) && S.holds stage.old p) }
+    ensures held { (p : PartName) → S.holds stage.new p
+        ≡ (not (is_below stripes p) && S.holds stage.old p) }
     ensures home { (p : PartName) → is_below stripes p ≡ true → IsSome (S.tells stage.new p) }
 {
     for stripe in 0..stripes {
@@ -102,7 +106,8 @@ fn open_parts<S: Stage<Part = Part>>(alloc: Global, stage: &mut S, stripes: u16)
     requires free { IsNone (S.holds stage.old) }
     requires room { HasRoom 0 (S.covers stage.old) }
     ensures stays { Stays S.lent S.fixed S.number S.is_desk S.is_telling stage.old stage.new }
-    ensures front { S.front stage.new ≡ with_event (with_start (S.front stage.old) (Some empty_start)) Opened }
+    ensures front { S.front stage.new ≡ with_event
+        (with_start (S.front stage.old) (Some empty_start)) Opened }
     ensures free { Same (S.holds stage.new) (S.holds stage.old) }
     ensures home { AreHome (S.front stage.old).config (S.tells stage.new) }
 {
@@ -129,7 +134,8 @@ fn bare_parts(alloc: Global, stripes: u16) -> Result<Vec<Part>, NoMemory>
     requires most { stripes ≤ 64 }
     ensures items { IfOk result (λ parts. parts.items ≡ bare_list stripes) }
     ensures count { IfOk result (λ parts. length parts.items ≡ stripes + 2) }
-    ensures stand { IfOk result (λ parts. (config : Config) (id : ℕ) → config.stripes ≡ stripes → StandBare part_stands config id parts.items) }
+    ensures stand { IfOk result (λ parts. (config : Config) (id : ℕ) → config.stripes ≡ stripes
+        → StandBare part_stands config id parts.items) }
 {
     let mut parts = stripes_of(alloc, stripes)?;
     parts.push(Part::Queue(FlatQueue::new(alloc)))?;
@@ -146,7 +152,8 @@ pub(crate) fn add_opened(
     requires fault { config_fault config.now ≡ None }
     requires config { world.old.config ≡ config.now }
     requires room { length world.old.buckets < config.now.vbuckets }
-    requires home { (vb : ℕ) → vb < length world.old.buckets → AreHome config.now (part_in world.old vb) }
+    requires home { (vb : ℕ) → vb < length world.old.buckets
+        → AreHome config.now (part_in world.old vb) }
     ensures ok { OnOk result (Added config.now world.old world.new) }
     ensures sound { Sound part_stands world.new }
 {
@@ -162,6 +169,7 @@ pub(crate) fn add_opened(
     };
     let mut stage = world.stage(count as u16, 0);
     open_parts(alloc, &mut stage, config.stripes);
+    // what is so of this world is known by this call
     let _count = world.count();
     Ok(())
 }

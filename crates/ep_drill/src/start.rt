@@ -100,7 +100,8 @@ fn push_call(callers: &mut Vec<Caller>, number: u16, loaded: Loaded) -> Result<(
     requires { number < length callers.old.items }
     ensures ok { OnOk result (map caller_data callers.new.items
         ≡ loaded_at number (loaded_data loaded) (map caller_data callers.old.items)) }
-    ensures err { OnErr result (map caller_data callers.new.items ≡ map caller_data callers.old.items) }
+    ensures err { OnErr result (map caller_data callers.new.items
+        ≡ map caller_data callers.old.items) }
 {
     let caller = &mut callers[usize::from(number)];
     match caller.calls.push(loaded) {
@@ -167,10 +168,13 @@ impl<K: Keeper> Core<K> {
         requires fresh { AreFresh (map K.seen keepers.items) }
         ensures interleaves { IfOk result (λ core. Interleaves core) }
         ensures layout { IfOk result (λ core. core.config ≡ config.now) }
-        ensures opened { IfOk result (λ core. FirstOpened config.now config.now.vbuckets core.world) }
+        ensures opened { IfOk result (λ core. FirstOpened config.now config.now.vbuckets
+            core.world) }
         ensures callers { IfOk result (λ core. core.callers ≡ copies callers idle) }
-        ensures benches { IfOk result (λ core. core.benches ≡ map (bench_over (copies config.now.stripes None)) (map K.seen keepers.items)) }
-        ensures err { IfErr result (λ refused. IsRefusal config.now refused.0 × (refused.1.items ≡ keepers.items)) }
+        ensures benches { IfOk result (λ core. core.benches
+            ≡ map (bench_over (copies config.now.stripes None)) (map K.seen keepers.items)) }
+        ensures err { IfErr result (λ refused. IsRefusal config.now refused.0
+            × (refused.1.items ≡ keepers.items)) }
     {
         if let Some(field) = config.fault() {
             return Err((OpenFault::BadConfig(field), keepers));
@@ -206,7 +210,8 @@ impl<K: Keeper> Core<K> {
         requires served { IsServed (call_data call.now) }
         requires within { IsWithin (call_data call.now) }
         ensures interleaves { Interleaves self.new }
-        ensures same { (length self.new.callers ≡ length self.old.callers) × (self.new.config ≡ self.old.config) }
+        ensures same { (length self.new.callers ≡ length self.old.callers)
+            × (self.new.config ≡ self.old.config) }
         ensures ok { OnOk result (IsLoaded caller (vb, call_data call.now) self.old self.new) }
         ensures err { OnErr result (self.new ≡ self.old) }
     {

@@ -57,8 +57,10 @@ pub(crate) fn page_once<S: Stage<Part = Part>>(stage: &mut S, stripe: u16) -> Pa
     requires free { IsNone (S.holds stage.old) }
     ensures stays { Stays S.lent S.fixed S.number S.is_desk S.is_telling stage.old stage.new }
     ensures front { S.front stage.new ≡ S.front stage.old }
-    ensures paged { IsPaged (S.tells stage.old (Stripe stripe)) (S.tells stage.new (Stripe stripe)) result }
-    ensures kept { KeptBut (S.front stage.old).config (is_stripe stripe) (S.tells stage.old) (S.tells stage.new) }
+    ensures paged { IsPaged (S.tells stage.old (Stripe stripe)) (S.tells stage.new (Stripe stripe))
+        result }
+    ensures kept { KeptBut (S.front stage.old).config (is_stripe stripe) (S.tells stage.old)
+        (S.tells stage.new) }
     ensures free { Same (S.holds stage.new) (S.holds stage.old) }
     ensures home { AreHome (S.front stage.old).config (S.tells stage.new) }
 {
@@ -72,7 +74,8 @@ pub(crate) fn page_once<S: Stage<Part = Part>>(stage: &mut S, stripe: u16) -> Pa
 fn fill(queue: &FlatQueue, batch: &mut Batch) -> Result<(), NoMemory>
     requires { AreDistinct batch.old.rows }
     ensures distinct { AreDistinct batch.new.rows }
-    ensures laid { OnOk result ((docs : Docs) → laid batch.new.rows docs ≡ laid_on (laid batch.old.rows docs) queue.now.items) }
+    ensures laid { OnOk result ((docs : Docs) → laid batch.new.rows docs
+        ≡ laid_on (laid batch.old.rows docs) queue.now.items) }
     ensures to { batch.new.to ≡ batch.old.to }
     ensures maxcas { batch.new.maxcas ≡ batch.old.maxcas }
 {
@@ -95,9 +98,12 @@ pub(crate) fn take_batch<S: Stage<Part = Part>>(
     requires free { IsNone (S.holds stage.old) }
     ensures stays { Stays S.lent S.fixed S.number S.is_desk S.is_telling stage.old stage.new }
     ensures front { S.front stage.new ≡ S.front stage.old }
-    ensures taken { IfOk result (λ batch. (desk : DeskData) → DeskStands (S.front stage.old) desk → IsTaken (S.front stage.old) desk.stored batch) }
-    ensures err { OnErr result ((world_of (S.front stage.old)).high ≡ (world_of (S.front stage.old)).persisted → ⊥) }
-    ensures parts { (p : PartName) → there (S.front stage.old).config p ≡ true → S.tells stage.new p ≡ S.tells stage.old p }
+    ensures taken { IfOk result (λ batch. (desk : DeskData) → DeskStands (S.front stage.old) desk
+        → IsTaken (S.front stage.old) desk.stored batch) }
+    ensures err { OnErr result ((world_of (S.front stage.old)).high
+        ≡ (world_of (S.front stage.old)).persisted → ⊥) }
+    ensures parts { (p : PartName) → there (S.front stage.old).config p ≡ true → S.tells stage.new p
+        ≡ S.tells stage.old p }
     ensures free { Same (S.holds stage.new) (S.holds stage.old) }
     ensures home { AreHome (S.front stage.old).config (S.tells stage.new) }
 {
@@ -132,8 +138,10 @@ pub(crate) fn commit_batch<S: Stage<Part = Part>, K: Keeper>(
     requires free { IsNone (S.holds stage.old) }
     requires room { HasRoom 0 (S.covers stage.old) }
     ensures stays { Stays S.lent S.fixed S.number S.is_desk S.is_telling stage.old stage.new }
-    ensures flushed { IsFlushed (S.front stage.old) (S.front stage.new) desk.old desk.new batch.now result }
-    ensures kept { KeptBut (S.front stage.old).config (λ p. is_queue p || is_desk p) (S.tells stage.old) (S.tells stage.new) }
+    ensures flushed { IsFlushed (S.front stage.old) (S.front stage.new) desk.old desk.new batch.now
+        result }
+    ensures kept { KeptBut (S.front stage.old).config
+        (λ p. is_queue p || is_desk p) (S.tells stage.old) (S.tells stage.new) }
     ensures free { Same (S.holds stage.new) (S.holds stage.old) }
     ensures home { AreHome (S.front stage.old).config (S.tells stage.new) }
 {

@@ -33,7 +33,8 @@ pub(crate) fn take_at<K: Keeper>(
     requires vb { vb < config.now.vbuckets }
     requires sound { Sound part_stands world.old }
     requires bench { BenchStands (front_in world.old vb) (bench_data bench.old) }
-    ensures taken { TakesAt config.now vb result world.old world.new (bench_data bench.old) (bench_data bench.new) }
+    ensures taken { TakesAt config.now vb result world.old world.new (bench_data bench.old)
+        (bench_data bench.new) }
     ensures moved { Moved config.now vb None world.old world.new }
     ensures bench { BenchStands (front_in world.new vb) (bench_data bench.new) }
     ensures sound { Sound part_stands world.new }
@@ -44,6 +45,7 @@ pub(crate) fn take_at<K: Keeper>(
     bench.batch = None;
     let mut stage = world.stage(vb, WORKER);
     let taken = take_batch(alloc, &mut stage);
+    // what is so of this world is known by this call
     let _count = world.count();
     match taken {
         Ok(Some(batch)) => {
@@ -69,8 +71,11 @@ pub(crate) fn commit_at<K: Keeper>(
     requires vb { vb < config.now.vbuckets }
     requires sound { Sound part_stands world.old }
     requires bench { BenchStands (front_in world.old vb) (bench_data bench.old) }
-    ensures ok { IfOk result (λ answer. CommitsAt config.now vb answer world.old world.new (bench_data bench.old) (bench_data bench.new)) }
-    ensures err { OnErr result (Rested config.now world.old world.new × (bench_data bench.new ≡ bench_data bench.old) × IsSome (bench_data bench.old).batch × LacksRoom world.old) }
+    ensures ok { IfOk result (λ answer. CommitsAt config.now vb answer world.old world.new
+        (bench_data bench.old) (bench_data bench.new)) }
+    ensures err { OnErr result (Rested config.now world.old world.new
+        × (bench_data bench.new ≡ bench_data bench.old) × IsSome (bench_data bench.old).batch
+        × LacksRoom world.old) }
     ensures worked { Worked config.now vb world.old world.new }
     ensures bench { BenchStands (front_in world.new vb) (bench_data bench.new) }
     ensures sound { Sound part_stands world.new }
@@ -78,6 +83,7 @@ pub(crate) fn commit_at<K: Keeper>(
     let Some(batch) = mem::replace(&mut bench.batch, None) else {
         return Ok(Answer::Nothing);
     };
+    // what is so of this batch is known by this call
     let _rows = batch.count();
     if world.reserve(1, 0).is_err() {
         bench.batch = Some(batch);
@@ -85,6 +91,7 @@ pub(crate) fn commit_at<K: Keeper>(
     }
     let mut stage = world.stage(vb, WORKER);
     let flushed = commit_batch(alloc, &mut bench.desk, &mut stage, &batch);
+    // what is so of this world is known by this call
     let _count = world.count();
     Ok(Answer::Flushed(flushed))
 }
@@ -106,8 +113,11 @@ fn read_sure<K: Keeper>(
     requires sure { bench.old.desk.doubt ≡ None }
     requires bench { BenchStands (front_in world.old vb) (bench_data bench.old) }
     requires value { value.old.spare + length value.old.bytes ≡ max_value }
-    ensures ok { IfOk result (λ answer. FetchesAt config.now vb stripe answer world.old world.new (bench_data bench.old) (bench_data bench.new)) }
-    ensures err { OnErr result (Rested config.now world.old world.new × (bench_data bench.new ≡ bench_data bench.old) × ((bench_data bench.old).desk.doubt ≡ None) × HasWaiting (part_in world.old vb (Stripe stripe))) }
+    ensures ok { IfOk result (λ answer. FetchesAt config.now vb stripe answer world.old world.new
+        (bench_data bench.old) (bench_data bench.new)) }
+    ensures err { OnErr result (Rested config.now world.old world.new
+        × (bench_data bench.new ≡ bench_data bench.old) × ((bench_data bench.old).desk.doubt ≡ None)
+        × HasWaiting (part_in world.old vb (Stripe stripe))) }
     ensures moved { Moved config.now vb None world.old world.new }
     ensures bench { BenchStands (front_in world.new vb) (bench_data bench.new) }
     ensures sound { Sound part_stands world.new }
@@ -115,6 +125,7 @@ fn read_sure<K: Keeper>(
 {
     let mut stage = world.stage(vb, WORKER);
     let read = fetch_read(alloc, &mut bench.desk, &mut stage, stripe, value);
+    // what is so of this world is known by this call
     let _count = world.count();
     match read {
         Ok(Some(fetched)) => {
@@ -143,8 +154,11 @@ pub(crate) fn read_at<K: Keeper>(
     requires sound { Sound part_stands world.old }
     requires bench { BenchStands (front_in world.old vb) (bench_data bench.old) }
     requires value { value.old.spare + length value.old.bytes ≡ max_value }
-    ensures ok { IfOk result (λ answer. FetchesAt config.now vb stripe answer world.old world.new (bench_data bench.old) (bench_data bench.new)) }
-    ensures err { OnErr result (Rested config.now world.old world.new × (bench_data bench.new ≡ bench_data bench.old) × ((bench_data bench.old).desk.doubt ≡ None) × HasWaiting (part_in world.old vb (Stripe stripe))) }
+    ensures ok { IfOk result (λ answer. FetchesAt config.now vb stripe answer world.old world.new
+        (bench_data bench.old) (bench_data bench.new)) }
+    ensures err { OnErr result (Rested config.now world.old world.new
+        × (bench_data bench.new ≡ bench_data bench.old) × ((bench_data bench.old).desk.doubt ≡ None)
+        × HasWaiting (part_in world.old vb (Stripe stripe))) }
     ensures moved { Moved config.now vb None world.old world.new }
     ensures bench { BenchStands (front_in world.new vb) (bench_data bench.new) }
     ensures sound { Sound part_stands world.new }
@@ -170,8 +184,11 @@ pub(crate) fn merge_at<K: Keeper>(
     requires stripe { stripe < config.now.stripes }
     requires sound { Sound part_stands world.old }
     requires bench { BenchStands (front_in world.old vb) (bench_data bench.old) }
-    ensures ok { IfOk result (λ answer. MergesAt config.now vb stripe answer world.old world.new (bench_data bench.old) (bench_data bench.new)) }
-    ensures err { OnErr result (Rested config.now world.old world.new × (bench_data bench.new ≡ bench_data bench.old) × (slice_get (bench_data bench.old).reads stripe ≡ Some None → ⊥) × LacksRoom world.old) }
+    ensures ok { IfOk result (λ answer. MergesAt config.now vb stripe answer world.old world.new
+        (bench_data bench.old) (bench_data bench.new)) }
+    ensures err { OnErr result (Rested config.now world.old world.new
+        × (bench_data bench.new ≡ bench_data bench.old)
+        × (slice_get (bench_data bench.old).reads stripe ≡ Some None → ⊥) × LacksRoom world.old) }
     ensures worked { Worked config.now vb world.old world.new }
     ensures bench { BenchStands (front_in world.new vb) (bench_data bench.new) }
     ensures sound { Sound part_stands world.new }
@@ -185,6 +202,7 @@ pub(crate) fn merge_at<K: Keeper>(
     }
     let mut stage = world.stage(vb, WORKER);
     let merging = fetch_merge(&mut stage, fetched);
+    // what is so of this world is known by this call
     let _count = world.count();
     Ok(Answer::Merged(merging))
 }

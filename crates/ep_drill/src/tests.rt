@@ -65,7 +65,8 @@ fn load_get(
     requires key { IsKey key.now }
     requires caller { caller < length core.old.callers }
     requires vb { 0 < core.old.config.vbuckets }
-    ensures same { (length core.new.callers ≡ length core.old.callers) × (core.new.config ≡ core.old.config) }
+    ensures same { (length core.new.callers ≡ length core.old.callers)
+        × (core.new.config ≡ core.old.config) }
 {
     core.load(alloc, caller, 0, &Call::Get { key })
 }
@@ -82,7 +83,8 @@ fn load_set(
     requires value { IsValue value.now }
     requires caller { caller < length core.old.callers }
     requires vb { 0 < core.old.config.vbuckets }
-    ensures same { (length core.new.callers ≡ length core.old.callers) × (core.new.config ≡ core.old.config) }
+    ensures same { (length core.new.callers ≡ length core.old.callers)
+        × (core.new.config ≡ core.old.config) }
 {
     let call = Call::Store {
         kind: StoreKind::Set,

@@ -45,13 +45,17 @@ fn note_step<S: Stage<Part = Part>>(
     value: &[u8],
 )
     requires telling { S.is_telling stage.old ≡ true }
-    requires covered { IfSome (event_of (S.number stage.old) (call_data call.now) now prior value.now step) (Covered (S.holds stage.old) (S.front stage.old)) }
-    requires may { IfSome (event_of (S.number stage.old) (call_data call.now) now prior value.now step) (May (S.front stage.old)) }
-    requires bytes { IfSome (event_of (S.number stage.old) (call_data call.now) now prior value.now step) (λ e. bytes_of e ≤ event_bytes) }
+    requires covered { IfSome (event_of (S.number stage.old) (call_data call.now) now prior
+        value.now step) (Covered (S.holds stage.old) (S.front stage.old)) }
+    requires may { IfSome (event_of (S.number stage.old) (call_data call.now) now prior value.now
+        step) (May (S.front stage.old)) }
+    requires bytes { IfSome (event_of (S.number stage.old) (call_data call.now) now prior value.now
+        step) (λ e. bytes_of e ≤ event_bytes) }
     requires legal { IsLegal (S.front stage.old) }
     requires room { HasRoom event_bytes (S.covers stage.old) }
     ensures stays { Stays S.lent S.fixed S.number S.is_desk S.is_telling stage.old stage.new }
-    ensures front { S.front stage.new ≡ with_noted (S.front stage.old) (event_of (S.number stage.old) (call_data call.now) now prior value.now step) }
+    ensures front { S.front stage.new ≡ with_noted (S.front stage.old)
+        (event_of (S.number stage.old) (call_data call.now) now prior value.now step) }
     ensures legal { IsLegal (S.front stage.new) }
     ensures held { Same (S.holds stage.new) (S.holds stage.old) }
     ensures tells { (p : PartName) → S.tells stage.new p ≡ S.tells stage.old p }
@@ -104,11 +108,17 @@ pub(crate) fn try_get<S: Stage<Part = Part>>(
     requires prior { PriorsStand (S.front stage.old) (S.number stage.old) (GetData key.now) prior }
     requires value { (value.old.bytes ≡ []) × (value.old.spare ≡ max_value) }
     ensures stays { Stays S.lent S.fixed S.number S.is_desk S.is_telling stage.old stage.new }
-    ensures front { IfOk result (λ step. S.front stage.new ≡ with_noted (S.front stage.old) (event_of (S.number stage.old) (GetData key.now) now prior value.new.bytes step)) }
-    ensures comes { IfOk result (ComesToGet stripes (S.tells stage.old) (S.tells stage.new) prior key.now now) }
-    ensures kept { KeptBut (S.front stage.old).config (touches_call (S.front stage.old).config (GetData key.now)) (S.tells stage.old) (S.tells stage.new) }
+    ensures front { IfOk result (λ step. S.front stage.new
+        ≡ with_noted (S.front stage.old) (event_of (S.number stage.old) (GetData key.now) now prior
+        value.new.bytes step)) }
+    ensures comes { IfOk result (ComesToGet stripes (S.tells stage.old) (S.tells stage.new) prior
+        key.now now) }
+    ensures kept { KeptBut (S.front stage.old).config
+        (touches_call (S.front stage.old).config (GetData key.now)) (S.tells stage.old)
+        (S.tells stage.new) }
     ensures err { OnErr result (S.front stage.new ≡ S.front stage.old) }
-    ensures parts { OnErr result ((p : PartName) → there (S.front stage.old).config p ≡ true → S.tells stage.new p ≡ S.tells stage.old p) }
+    ensures parts { OnErr result ((p : PartName) → there (S.front stage.old).config p ≡ true
+        → S.tells stage.new p ≡ S.tells stage.old p) }
     ensures free { Same (S.holds stage.new) (S.holds stage.old) }
     ensures home { AreHome (S.front stage.old).config (S.tells stage.new) }
     ensures value { value.new.spare + length value.new.bytes ≡ max_value }
@@ -150,11 +160,17 @@ pub(crate) fn try_set<S: Stage<Part = Part>>(
     requires value { IsValue value.now }
     requires moment { IsMoment now }
     ensures stays { Stays S.lent S.fixed S.number S.is_desk S.is_telling stage.old stage.new }
-    ensures front { IfOk result (λ step. S.front stage.new ≡ with_noted (S.front stage.old) (event_of (S.number stage.old) (StoreData SetKind key.now value.now flags expiration cas) now prior [] step)) }
-    ensures comes { IfOk result (ComesToSet config.now.stripes (fit_of config.now) (S.tells stage.old) (S.tells stage.new) prior key.now value.now flags expiration cas now) }
-    ensures kept { KeptBut config.now (touches_call config.now (StoreData SetKind key.now value.now flags expiration cas)) (S.tells stage.old) (S.tells stage.new) }
+    ensures front { IfOk result (λ step. S.front stage.new
+        ≡ with_noted (S.front stage.old) (event_of (S.number stage.old)
+        (StoreData SetKind key.now value.now flags expiration cas) now prior [] step)) }
+    ensures comes { IfOk result (ComesToSet config.now.stripes (fit_of config.now)
+        (S.tells stage.old) (S.tells stage.new) prior key.now value.now flags expiration cas now) }
+    ensures kept { KeptBut config.now (touches_call config.now
+        (StoreData SetKind key.now value.now flags expiration cas)) (S.tells stage.old)
+        (S.tells stage.new) }
     ensures err { OnErr result (S.front stage.new ≡ S.front stage.old) }
-    ensures parts { OnErr result ((p : PartName) → there (S.front stage.old).config p ≡ true → S.tells stage.new p ≡ S.tells stage.old p) }
+    ensures parts { OnErr result ((p : PartName) → there (S.front stage.old).config p ≡ true
+        → S.tells stage.new p ≡ S.tells stage.old p) }
     ensures free { Same (S.holds stage.new) (S.holds stage.old) }
     ensures home { AreHome (S.front stage.old).config (S.tells stage.new) }
 {

@@ -71,8 +71,11 @@ pub(crate) fn try_next(
     requires loaded { AllByRecursion (IsOn config.now) (caller_data caller.old).calls }
     requires moment { IsMoment now }
     requires value { value.old.spare + length value.old.bytes ≡ max_value }
-    ensures ok { IfOk result (Turned config.now number now world.old world.new (caller_data caller.old) (caller_data caller.new) value.new.bytes) }
-    ensures err { OnErr result (Rested config.now world.old world.new × (caller_data caller.new ≡ caller_data caller.old) × IsSome (next_of (caller_data caller.old))) }
+    ensures ok { IfOk result (Turned config.now number now world.old world.new
+        (caller_data caller.old) (caller_data caller.new) value.new.bytes) }
+    ensures err { OnErr result (Rested config.now world.old world.new
+        × (caller_data caller.new ≡ caller_data caller.old)
+        × IsSome (next_of (caller_data caller.old))) }
     ensures sound { Sound part_stands world.new }
     ensures value { value.new.spare + length value.new.bytes ≡ max_value }
 {

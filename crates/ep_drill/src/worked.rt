@@ -48,11 +48,16 @@ fn get_at(
 ) -> Result<Step, NoMemory>
     requires ready { Ready config.now world.old }
     requires vb { vb < config.now.vbuckets }
-    requires prior { PriorsStand (front_in world.old vb) number (GetData key.now.bytes.items) prior }
+    requires prior { PriorsStand (front_in world.old vb) number (GetData key.now.bytes.items)
+        prior }
     requires value { (value.old.bytes ≡ []) × (value.old.spare ≡ max_value) }
-    ensures ok { IfOk result (λ step. Moved config.now vb (event_of number (GetData key.now.bytes.items) now prior value.new.bytes step) world.old world.new) }
-    ensures comes { IfOk result (ComesToGet config.now.stripes (part_in world.old vb) (part_in world.new vb) prior key.now.bytes.items now) }
-    ensures kept { KeptBut config.now (touches_call config.now (GetData key.now.bytes.items)) (part_in world.old vb) (part_in world.new vb) }
+    ensures ok { IfOk result (λ step. Moved config.now vb
+        (event_of number (GetData key.now.bytes.items) now prior value.new.bytes step) world.old
+        world.new) }
+    ensures comes { IfOk result (ComesToGet config.now.stripes (part_in world.old vb)
+        (part_in world.new vb) prior key.now.bytes.items now) }
+    ensures kept { KeptBut config.now (touches_call config.now (GetData key.now.bytes.items))
+        (part_in world.old vb) (part_in world.new vb) }
     ensures err { OnErr result (Rested config.now world.old world.new) }
     ensures sound { Sound part_stands world.new }
     ensures value { value.new.spare + length value.new.bytes ≡ max_value }
@@ -70,6 +75,7 @@ fn get_at(
         prior,
         value,
     );
+    // what is so of this world is known by this call
     let _count = world.count();
     step
 }
@@ -88,9 +94,15 @@ fn set_at(
     requires ready { Ready config.now world.old }
     requires vb { vb < config.now.vbuckets }
     requires moment { IsMoment now }
-    ensures ok { IfOk result (λ step. Moved config.now vb (event_of number (StoreData SetKind call.now.key.bytes.items call.now.value.items call.now.flags call.now.expiration call.now.cas) now prior [] step) world.old world.new) }
-    ensures comes { IfOk result (ComesToSet config.now.stripes (fit_of config.now) (part_in world.old vb) (part_in world.new vb) prior call.now.key.bytes.items call.now.value.items call.now.flags call.now.expiration call.now.cas now) }
-    ensures kept { KeptBut config.now (touches_call config.now (StoreData SetKind call.now.key.bytes.items call.now.value.items call.now.flags call.now.expiration call.now.cas)) (part_in world.old vb) (part_in world.new vb) }
+    ensures ok { IfOk result (λ step. Moved config.now vb
+        (event_of number (StoreData SetKind call.now.key.bytes.items call.now.value.items
+        call.now.flags call.now.expiration call.now.cas) now prior [] step) world.old world.new) }
+    ensures comes { IfOk result (ComesToSet config.now.stripes (fit_of config.now)
+        (part_in world.old vb) (part_in world.new vb) prior call.now.key.bytes.items
+        call.now.value.items call.now.flags call.now.expiration call.now.cas now) }
+    ensures kept { KeptBut config.now (touches_call config.now
+        (StoreData SetKind call.now.key.bytes.items call.now.value.items call.now.flags
+        call.now.expiration call.now.cas)) (part_in world.old vb) (part_in world.new vb) }
     ensures err { OnErr result (Rested config.now world.old world.new) }
     ensures sound { Sound part_stands world.new }
 {
@@ -110,6 +122,7 @@ fn set_at(
         call.cas,
         now,
     );
+    // what is so of this world is known by this call
     let _count = world.count();
     step
 }
@@ -128,12 +141,17 @@ pub(crate) fn try_loaded(
 ) -> Result<Step, NoMemory>
     requires ready { Ready config.now world.old }
     requires vb { loaded.now.vb < config.now.vbuckets }
-    requires prior { PriorsStand (front_in world.old loaded.now.vb) number (owned_data loaded.now.call) prior }
+    requires prior { PriorsStand (front_in world.old loaded.now.vb) number
+        (owned_data loaded.now.call) prior }
     requires moment { IsMoment now }
     requires value { (value.old.bytes ≡ []) × (value.old.spare ≡ max_value) }
-    ensures ok { IfOk result (λ step. Moved config.now loaded.now.vb (event_of number (owned_data loaded.now.call) now prior value.new.bytes step) world.old world.new) }
-    ensures comes { IfOk result (ComesTo config.now (part_in world.old loaded.now.vb) (part_in world.new loaded.now.vb) (owned_data loaded.now.call) now prior) }
-    ensures kept { KeptBut config.now (touches_call config.now (owned_data loaded.now.call)) (part_in world.old loaded.now.vb) (part_in world.new loaded.now.vb) }
+    ensures ok { IfOk result (λ step. Moved config.now loaded.now.vb
+        (event_of number (owned_data loaded.now.call) now prior value.new.bytes step) world.old
+        world.new) }
+    ensures comes { IfOk result (ComesTo config.now (part_in world.old loaded.now.vb)
+        (part_in world.new loaded.now.vb) (owned_data loaded.now.call) now prior) }
+    ensures kept { KeptBut config.now (touches_call config.now (owned_data loaded.now.call))
+        (part_in world.old loaded.now.vb) (part_in world.new loaded.now.vb) }
     ensures err { OnErr result (Rested config.now world.old world.new) }
     ensures sound { Sound part_stands world.new }
     ensures value { value.new.spare + length value.new.bytes ≡ max_value }
@@ -157,7 +175,8 @@ pub(crate) fn mark_at<K: Keeper>(
     requires vb { vb < config.now.vbuckets }
     requires stripe { stripe < config.now.stripes }
     requires bench { BenchStands (front_in world.old vb) (bench_data bench.now) }
-    ensures ok { IfOk result (λ answer. MarksAt config.now vb stripe answer world.old world.new (bench_data bench.now) (bench_data bench.now)) }
+    ensures ok { IfOk result (λ answer. MarksAt config.now vb stripe answer world.old world.new
+        (bench_data bench.now) (bench_data bench.now)) }
     ensures err { OnErr result (Rested config.now world.old world.new × LacksRoom world.old) }
     ensures worked { Worked config.now vb world.old world.new }
     ensures bench { BenchStands (front_in world.new vb) (bench_data bench.now) }
@@ -168,6 +187,7 @@ pub(crate) fn mark_at<K: Keeper>(
     }
     let mut stage = world.stage(vb, WORKER);
     let marking = mark_once(&bench.desk, &mut stage, stripe);
+    // what is so of this world is known by this call
     let _count = world.count();
     Ok(Answer::Marked(marking))
 }
@@ -177,13 +197,16 @@ pub(crate) fn page_at(config: &Config, world: &mut World<Part>, vb: u16, stripe:
     requires ready { Ready config.now world.old }
     requires vb { vb < config.now.vbuckets }
     requires stripe { stripe < config.now.stripes }
-    ensures paged { IsPaged (part_in world.old vb (Stripe stripe)) (part_in world.new vb (Stripe stripe)) result }
-    ensures kept { KeptBut config.now (is_stripe stripe) (part_in world.old vb) (part_in world.new vb) }
+    ensures paged { IsPaged (part_in world.old vb (Stripe stripe))
+        (part_in world.new vb (Stripe stripe)) result }
+    ensures kept { KeptBut config.now (is_stripe stripe) (part_in world.old vb)
+        (part_in world.new vb) }
     ensures worked { Moved config.now vb None world.old world.new }
     ensures sound { Sound part_stands world.new }
 {
     let mut stage = world.stage(vb, WORKER);
     let paged = page_once(&mut stage, stripe);
+    // what is so of this world is known by this call
     let _count = world.count();
     paged
 }

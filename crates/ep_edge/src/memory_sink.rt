@@ -84,10 +84,13 @@ impl Sink for MemorySink {
     /// Its cost is linear in the number of bytes and in that of the writes that fail.
     fn write(&mut self, bytes: &[u8]) -> Put
         requires { 0 < length bytes.now }
-        ensures done { result ≡ Put.Done → Appends (Some self.old.held) (Some self.new.held) bytes.now }
-        ensures failed { result ≡ Put.Failed → AppendsFront (Some self.old.held) (Some self.new.held) bytes.now }
+        ensures done { result ≡ Put.Done → Appends (Some self.old.held) (Some self.new.held)
+            bytes.now }
+        ensures failed { result ≡ Put.Failed → AppendsFront (Some self.old.held)
+            (Some self.new.held) bytes.now }
         ensures faults { self.new.faults ≡ write_faults result self.old.faults }
-        ensures offered { offer (Some self.new.held_before) self.new.faults_before self.new.offered ≡ offer (Some self.old.held) self.old.faults (length bytes.now) }
+        ensures offered { offer (Some self.new.held_before) self.new.faults_before self.new.offered
+            ≡ offer (Some self.old.held) self.old.faults (length bytes.now) }
         ensures answer { result ≡ write_answer self.old bytes.now }
         ensures after { self.new ≡ after_write self.old bytes.now }
     {

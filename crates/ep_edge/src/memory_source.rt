@@ -91,7 +91,8 @@ impl Source for MemorySource {
     fn read(&mut self, into: &mut [u8]) -> Got
         requires { 0 < length into.old }
         ensures count { (n : ℕ) → result ≡ Got.Bytes n → (0 < n) × (n ≤ length into.new) }
-        ensures takes { TakesBytes (Some self.old.left) (Some self.new.left) (bytes_read result into.new) }
+        ensures takes { TakesBytes (Some self.old.left) (Some self.new.left)
+            (bytes_read result into.new) }
         ensures ended { self.new.ended ≡ (self.old.ended || is_end result) }
         ensures end { result ≡ Got.End → IsEmptied (Some self.new.left) }
         ensures after_end { (n : ℕ) → self.old.ended ≡ true → result ≡ Got.Bytes n → ⊥ }

@@ -24,7 +24,8 @@ pub trait Sink: Drop {
     fn write(&mut self, bytes: &[u8]) -> Put
         requires { 0 < length bytes.now }
         ensures done { result ≡ Put.Done → Appends (held self.old) (held self.new) bytes.now }
-        ensures failed { result ≡ Put.Failed → AppendsFront (held self.old) (held self.new) bytes.now }
+        ensures failed { result ≡ Put.Failed → AppendsFront (held self.old) (held self.new)
+            bytes.now }
         ensures faults { faults self.new ≡ write_faults result (faults self.old) }
         ensures offered { last_offer self.new ≡ offer (held self.old) (faults self.old) (length bytes.now) };
 }

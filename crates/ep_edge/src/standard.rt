@@ -42,7 +42,8 @@ impl<R> Model for ReaderSource<R> {
 impl<R: Read + Drop> ReaderSource<R> {
     /// A source of the reader's bytes. It takes no memory.
     pub fn new(reader: R) -> ReaderSource<R>
-        ensures { result ≡ record { reader = reader; ended = false; ended_before = false; faults = 0 } }
+        ensures { result
+            ≡ record { reader = reader; ended = false; ended_before = false; faults = 0 } }
     {
         ReaderSource {
             reader,
@@ -75,7 +76,8 @@ impl<R: Read + Drop> Source for ReaderSource<R> {
         ensures faults { self.new.faults ≡ read_faults result self.old.faults }
         ensures bytes { Consumes (R.remaining self.old.reader) (R.remaining self.new.reader)
             (bytes_read result into.new) }
-        ensures at_end { self.old.ended ≡ false → result ≡ Got.End → IsAtEnd (R.remaining self.new.reader) }
+        ensures at_end { self.old.ended ≡ false → result ≡ Got.End
+            → IsAtEnd (R.remaining self.new.reader) }
         ensures behind { self.new.ended_before ≡ self.old.ended }
         ensures ends_for_good { self.old.ended ≡ true →
             (result ≡ Got.End) × (self.new ≡ record self.old { ended_before = true }) }
@@ -146,7 +148,8 @@ impl<W: Write + Drop> Sink for WriterSink<W> {
     fn write(&mut self, bytes: &[u8]) -> Put
         requires { 0 < length bytes.now }
         ensures faults { self.new.faults ≡ write_faults result self.old.faults }
-        ensures offered { offer None self.new.faults_before self.new.offered ≡ offer None self.old.faults (length bytes.now) }
+        ensures offered { offer None self.new.faults_before self.new.offered
+            ≡ offer None self.old.faults (length bytes.now) }
         ensures written { result ≡ Put.Done →
             AppendsKnown (W.contents self.old.writer) (W.contents self.new.writer) bytes.now }
         ensures not_written { result ≡ Put.Failed →
@@ -252,8 +255,10 @@ fn write_patiently<W: Write>(writer: &mut W, bytes: &[u8]) -> io::Result<usize>
 
 /// Writes all the bytes and flushes. After an error the writer may have taken some of them, from the first on.
 fn write_whole<W: Write>(writer: &mut W, bytes: &[u8]) -> io::Result<()>
-    ensures ok { OnOk result (AppendsKnown (W.contents writer.old) (W.contents writer.new) bytes.now) }
-    ensures err { OnErr result (AppendsSome (W.contents writer.old) (W.contents writer.new) bytes.now) }
+    ensures ok { OnOk result (AppendsKnown (W.contents writer.old) (W.contents writer.new)
+        bytes.now) }
+    ensures err { OnErr result (AppendsSome (W.contents writer.old) (W.contents writer.new)
+        bytes.now) }
 {
     let mut written = 0;
     while written < bytes.len() {

@@ -78,14 +78,19 @@ impl Plain {
         requires within { IsWithin (call_data call.now) }
         requires spare { max_value ≤ value.old.spare }
 
-        ensures reply { IfOk result (λ reply. reply ≡ (answer self.old (call_data call.now) now).reply) }
-        ensures value { OnOk result (value.new.bytes ≡ value.old.bytes ++ (answer self.old (call_data call.now) now).value) }
-        ensures world { OnOk result (self.new ≡ apply self.old (answer self.old (call_data call.now) now).effect) }
+        ensures reply { IfOk result (λ reply. reply
+            ≡ (answer self.old (call_data call.now) now).reply) }
+        ensures value { OnOk result (value.new.bytes ≡ value.old.bytes
+            ++ (answer self.old (call_data call.now) now).value) }
+        ensures world { OnOk result (self.new ≡ apply self.old
+            (answer self.old (call_data call.now) now).effect) }
         ensures err { OnErr result ((self.new ≡ self.old) × (value.new ≡ value.old)) }
 
         // Memory is wanting only where something is to be kept.
-        ensures memory { OnErr result ((answer self.old (call_data call.now) now).effect ≢ Nothing) }
-        ensures room { value.new.spare + length value.new.bytes ≡ value.old.spare + length value.old.bytes }
+        ensures memory { OnErr result ((answer self.old (call_data call.now) now).effect
+            ≢ Nothing) }
+        ensures room { value.new.spare + length value.new.bytes ≡ value.old.spare
+            + length value.old.bytes }
     {
         match rules::state_refusal(self.state(), call.has_key()) {
             Some(refused) => Ok(Reply::refusal(refused)),
@@ -98,7 +103,8 @@ impl Plain {
         requires moment { IsMoment now }
         requires within { IsWithin (call_data call.now) }
         requires spare { max_value ≤ value.old.spare }
-        ensures { Serves (answer_row self.old (call_data call.now) now) self.old self.new value.old value.new result }
+        ensures { Serves (answer_row self.old (call_data call.now) now) self.old self.new value.old
+            value.new result }
     {
         match *call {
             Call::Get { key } => Ok(self.get(key, now, value)),
@@ -189,8 +195,10 @@ impl Plain {
     /// Appends the value of the document of a key, live or not.
     fn show_value(&self, key: &[u8], value: &mut Out)
         requires { max_value ≤ value.old.spare }
-        ensures bytes { value.new.bytes ≡ value.old.bytes ++ value_of (finmap.get self.now.docs key.now) }
-        ensures room { value.new.spare + length value.new.bytes ≡ value.old.spare + length value.old.bytes }
+        ensures bytes { value.new.bytes ≡ value.old.bytes
+            ++ value_of (finmap.get self.now.docs key.now) }
+        ensures room { value.new.spare + length value.new.bytes ≡ value.old.spare
+            + length value.old.bytes }
     {
         if let Some(document) = document_of(&self.documents, key) {
             value.push(&document.value);
@@ -201,7 +209,9 @@ impl Plain {
     fn put(&mut self, key: &[u8], draft: Draft, flags: u32, now: u64) -> Result<Reply, NoMemory>
         requires moment { IsMoment now }
         requires room { number_refusal self.old.high ≡ None }
-        ensures { Does (put_success self.old key.now (next_doc self.old draft.value.items draft.flags draft.expiry draft.deleted now) flags []) self.old self.new result }
+        ensures { Does (put_success self.old key.now
+            (next_doc self.old draft.value.items draft.flags draft.expiry draft.deleted now) flags
+            []) self.old self.new result }
     {
         let cas = rules::stamp(self.maxcas, now);
         let seqno = self.high + 1;

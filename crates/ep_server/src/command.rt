@@ -48,8 +48,10 @@ pub fn run<R: Source, W: Sink, C: Clock>(
         (outside (R.left source.new) (R.left_before source.new) (R.has_ended source.new) (R.ended_before source.new) (R.faults source.new) (W.held sink.new) (W.last_offer sink.new) (W.faults sink.new) (C.moment clock.new))
         ((source.new ≡ source.old) × (sink.new ≡ sink.old) × (clock.new ≡ clock.old)) result) }
     ensures unread { IfErr words (λ end. result ≡ end) }
-    ensures refused { result ≡ End.BadWords → (source.new ≡ source.old) × (sink.new ≡ sink.old) × (clock.new ≡ clock.old) }
-    ensures untouched { OnErr words ((source.new ≡ source.old) × (sink.new ≡ sink.old) × (clock.new ≡ clock.old)) }
+    ensures refused { result ≡ End.BadWords → (source.new ≡ source.old) × (sink.new ≡ sink.old)
+        × (clock.new ≡ clock.old) }
+    ensures untouched { OnErr words ((source.new ≡ source.old) × (sink.new ≡ sink.old)
+        × (clock.new ≡ clock.old)) }
 {
     match words {
         Ok(words) => run_session(alloc, &words, source, sink, clock).end,

@@ -63,8 +63,11 @@ impl Responder {
         requires sound { IsSound self.old }
         requires room { length self.old.conn.out.bytes ≤ MAX_PENDING }
         ensures sound { OnOk result (IsSound self.new) }
-        ensures answered { IfOk result (λ served. Responds (frame_data frame.now) (C.moment clock.old) (C.moment clock.new) (is_quit_served served) self.old self.new) }
-        ensures err { OnErr result ((self.new.history ≡ self.old.history) × (self.new.conn.out.bytes ≡ self.old.conn.out.bytes) × (self.new.conn.features ≡ self.old.conn.features)) }
+        ensures answered { IfOk result (λ served. Responds (frame_data frame.now)
+            (C.moment clock.old) (C.moment clock.new) (is_quit_served served) self.old self.new) }
+        ensures err { OnErr result ((self.new.history ≡ self.old.history)
+            × (self.new.conn.out.bytes ≡ self.old.conn.out.bytes)
+            × (self.new.conn.features ≡ self.old.conn.features)) }
         ensures asked { (k : ℕ) → C.moment clock.new k ≡ C.moment clock.old (k + 1) }
     {
         let now = clock.now();
@@ -91,9 +94,12 @@ impl Responder {
 
     /// Writes the answers that aren't written yet. After a fault some of them are lost.
     pub fn flush<W: Sink>(&mut self, sink: &mut W) -> Put
-        ensures done { result ≡ Put.Done → Writes self.old.conn.out.bytes self.new.conn.out.bytes (W.held sink.old) (W.held sink.new) × (self.new.conn.out.bytes ≡ []) }
-        ensures failed { result ≡ Put.Failed → LosesSome self.old.conn.out.bytes (W.held sink.old) (W.held sink.new) × RoseByOne (W.faults sink.old) (W.faults sink.new) }
-        ensures offered { result ≡ Put.Failed → W.last_offer sink.new ≡ offer (W.held sink.old) (W.faults sink.old) (length self.old.conn.out.bytes) }
+        ensures done { result ≡ Put.Done → Writes self.old.conn.out.bytes self.new.conn.out.bytes
+            (W.held sink.old) (W.held sink.new) × (self.new.conn.out.bytes ≡ []) }
+        ensures failed { result ≡ Put.Failed → LosesSome self.old.conn.out.bytes (W.held sink.old)
+            (W.held sink.new) × RoseByOne (W.faults sink.old) (W.faults sink.new) }
+        ensures offered { result ≡ Put.Failed → W.last_offer sink.new
+            ≡ offer (W.held sink.old) (W.faults sink.old) (length self.old.conn.out.bytes) }
         ensures some { result ≡ Put.Failed → self.old.conn.out.bytes ≢ [] }
         ensures quiet { result ≡ Put.Done → W.faults sink.new ≡ W.faults sink.old }
         ensures kept { KeepsAllButAnswers self.old self.new }
@@ -112,9 +118,12 @@ impl Responder {
 
     /// Writes the answers where they are many, so that one more has room.
     pub fn make_room<W: Sink>(&mut self, sink: &mut W) -> Put
-        ensures done { result ≡ Put.Done → Writes self.old.conn.out.bytes self.new.conn.out.bytes (W.held sink.old) (W.held sink.new) × (length self.new.conn.out.bytes ≤ MAX_PENDING) }
-        ensures failed { result ≡ Put.Failed → LosesSome self.old.conn.out.bytes (W.held sink.old) (W.held sink.new) × RoseByOne (W.faults sink.old) (W.faults sink.new) }
-        ensures offered { result ≡ Put.Failed → W.last_offer sink.new ≡ offer (W.held sink.old) (W.faults sink.old) (length self.old.conn.out.bytes) }
+        ensures done { result ≡ Put.Done → Writes self.old.conn.out.bytes self.new.conn.out.bytes
+            (W.held sink.old) (W.held sink.new) × (length self.new.conn.out.bytes ≤ MAX_PENDING) }
+        ensures failed { result ≡ Put.Failed → LosesSome self.old.conn.out.bytes (W.held sink.old)
+            (W.held sink.new) × RoseByOne (W.faults sink.old) (W.faults sink.new) }
+        ensures offered { result ≡ Put.Failed → W.last_offer sink.new
+            ≡ offer (W.held sink.old) (W.faults sink.old) (length self.old.conn.out.bytes) }
         ensures many { result ≡ Put.Failed → MAX_PENDING < length self.old.conn.out.bytes }
         ensures quiet { result ≡ Put.Done → W.faults sink.new ≡ W.faults sink.old }
         ensures kept { KeepsAllButAnswers self.old self.new }
@@ -140,8 +149,10 @@ fn answer_call(
     requires within { IsWithin (call_data call.now) }
     requires spare { 2097152 ≤ conn.old.out.spare }
     requires value { conn.old.value.spare + length conn.old.value.bytes ≡ value_room }
-    ensures called { OnOk result (AnswersCall (frame_data frame.now) (call_data call.now) now plain.old plain.new history.old history.new conn.old conn.new) }
-    ensures err { OnErr result ((history.new ≡ history.old) × (conn.new.out.bytes ≡ conn.old.out.bytes) × (conn.new.features ≡ conn.old.features)) }
+    ensures called { OnOk result (AnswersCall (frame_data frame.now) (call_data call.now) now
+        plain.old plain.new history.old history.new conn.old conn.new) }
+    ensures err { OnErr result ((history.new ≡ history.old)
+        × (conn.new.out.bytes ≡ conn.old.out.bytes) × (conn.new.features ≡ conn.old.features)) }
 {
     // Reading it tells its range, without which the answer's length has no bound.
     let _key_len = frame.key_len;
@@ -162,7 +173,8 @@ fn note_call(
     reply: Reply,
     value: &[u8],
 ) -> Result<(), NoMemory>
-    ensures ok { OnOk result (history.new ≡ history.old ++ (0, Called 0 (call_data call.now) now reply value.now) ∷ []) }
+    ensures ok { OnOk result (history.new ≡ history.old
+        ++ (0, Called 0 (call_data call.now) now reply value.now) ∷ []) }
     ensures err { OnErr result (history.new ≡ history.old) }
 {
     let event = Event::Called {

@@ -38,15 +38,21 @@ fn serve_next<W: Sink, C: Clock>(
 ) -> Result<bool, End>
     requires sound { IsSound responder.old }
 
-    ensures serves { OnOk result (Advances (stand feeder.old.rest responder.old (W.held sink.old) (C.moment clock.old) false) (stand feeder.new.rest responder.new (W.held sink.new) (C.moment clock.new) false)) }
+    ensures serves { OnOk result (Advances (stand feeder.old.rest responder.old (W.held sink.old)
+        (C.moment clock.old) false) (stand feeder.new.rest responder.new (W.held sink.new)
+        (C.moment clock.new) false)) }
     ensures sound { OnOk result (IsSound responder.new) }
     ensures less { result ≡ Ok true → length feeder.new.rest < length feeder.old.rest }
     ensures partial { result ≡ Ok false → IsPartial feeder.new.rest }
 
-    ensures breaks { IfErr result (λ end. Breaks end (stand feeder.old.rest responder.old (W.held sink.old) (C.moment clock.old) false) (stand feeder.new.rest responder.new (W.held sink.new) (C.moment clock.new) false) feeder.new.at (W.faults sink.old) (W.faults sink.new) (W.last_offer sink.new)) }
+    ensures breaks { IfErr result (λ end. Breaks end
+        (stand feeder.old.rest responder.old (W.held sink.old) (C.moment clock.old) false)
+        (stand feeder.new.rest responder.new (W.held sink.new) (C.moment clock.new) false)
+        feeder.new.at (W.faults sink.old) (W.faults sink.new) (W.last_offer sink.new)) }
     ensures legal { OnErr result (IsLegalHistory responder.new.history) }
 
-    ensures place { feeder.new.at + length feeder.new.rest ≡ feeder.old.at + length feeder.old.rest }
+    ensures place { feeder.new.at + length feeder.new.rest ≡ feeder.old.at
+        + length feeder.old.rest }
     ensures quiet { OnOk result (W.faults sink.new ≡ W.faults sink.old) }
 {
     let Put::Done = responder.make_room(sink) else {
@@ -73,15 +79,21 @@ fn drain<W: Sink, C: Clock>(
 ) -> Result<(), End>
     requires sound { IsSound responder.old }
 
-    ensures serves { OnOk result (Advances (stand feeder.old.rest responder.old (W.held sink.old) (C.moment clock.old) false) (stand feeder.new.rest responder.new (W.held sink.new) (C.moment clock.new) false)) }
+    ensures serves { OnOk result (Advances (stand feeder.old.rest responder.old (W.held sink.old)
+        (C.moment clock.old) false) (stand feeder.new.rest responder.new (W.held sink.new)
+        (C.moment clock.new) false)) }
     ensures sound { OnOk result (IsSound responder.new) }
     ensures partial { OnOk result (IsPartial feeder.new.rest) }
     ensures written { OnOk result (responder.new.conn.out.bytes ≡ []) }
 
-    ensures breaks { IfErr result (λ end. Breaks end (stand feeder.old.rest responder.old (W.held sink.old) (C.moment clock.old) false) (stand feeder.new.rest responder.new (W.held sink.new) (C.moment clock.new) false) feeder.new.at (W.faults sink.old) (W.faults sink.new) (W.last_offer sink.new)) }
+    ensures breaks { IfErr result (λ end. Breaks end
+        (stand feeder.old.rest responder.old (W.held sink.old) (C.moment clock.old) false)
+        (stand feeder.new.rest responder.new (W.held sink.new) (C.moment clock.new) false)
+        feeder.new.at (W.faults sink.old) (W.faults sink.new) (W.last_offer sink.new)) }
     ensures legal { OnErr result (IsLegalHistory responder.new.history) }
 
-    ensures place { feeder.new.at + length feeder.new.rest ≡ feeder.old.at + length feeder.old.rest }
+    ensures place { feeder.new.at + length feeder.new.rest ≡ feeder.old.at
+        + length feeder.old.rest }
     ensures quiet { OnOk result (W.faults sink.new ≡ W.faults sink.old) }
 {
     'frames: loop {
@@ -103,7 +115,8 @@ fn take<R: Source>(feeder: &mut Feeder, limit: u64, source: &mut R) -> Got
     requires limit { 0 < limit }
     requires place { feeder.old.at + length feeder.old.rest + limit < 2 ^ 64 }
 
-    ensures feeds { Feeds result feeder.old.rest feeder.new.rest (R.left source.old) (R.left source.new) }
+    ensures feeds { Feeds result feeder.old.rest feeder.new.rest (R.left source.old)
+        (R.left source.new) }
     ensures at { feeder.new.at ≡ feeder.old.at }
     ensures count { (n : ℕ) → result ≡ Got.Bytes n → (0 < n) × (n ≤ limit) }
     ensures ended { R.has_ended source.new ≡ (R.has_ended source.old || is_end result) }
@@ -177,7 +190,9 @@ fn serve_stream<R: Source, W: Sink, C: Clock>(
 
 // Writes what is pending as a session ends, unless a fault of writing ended it.
 fn finish<W: Sink>(end: End, responder: &mut Responder, sink: &mut W) -> End
-    ensures finishes { Finishes end result responder.old.conn.out.bytes (W.held sink.old) (W.held sink.new) (W.faults sink.old) (W.faults sink.new) (W.last_offer sink.old) (W.last_offer sink.new) }
+    ensures finishes { Finishes end result responder.old.conn.out.bytes (W.held sink.old)
+        (W.held sink.new) (W.faults sink.old) (W.faults sink.new) (W.last_offer sink.old)
+        (W.last_offer sink.new) }
     ensures history { responder.new.history ≡ responder.old.history }
 {
     if let End::WriteFault = end {
@@ -231,12 +246,16 @@ pub fn run_session<R: Source, W: Sink, C: Clock>(
     sink: &mut W,
     clock: &mut C,
 ) -> SessionEnd
-    ensures words { result.end ≡ End.BadWords → IsSessionCommand (map string_bytes words.now.items) → ⊥ }
-    ensures bad_words { (IsSessionCommand (map string_bytes words.now.items) → ⊥) → result.end ≡ End.BadWords }
+    ensures words { result.end ≡ End.BadWords → IsSessionCommand (map string_bytes words.now.items)
+        → ⊥ }
+    ensures bad_words { (IsSessionCommand (map string_bytes words.now.items) → ⊥) → result.end
+        ≡ End.BadWords }
     ensures session { IsSession (outside (R.left source.old) (R.left_before source.old) (R.has_ended source.old) (R.ended_before source.old) (R.faults source.old) (W.held sink.old) (W.last_offer sink.old) (W.faults sink.old) (C.moment clock.old))
         (outside (R.left source.new) (R.left_before source.new) (R.has_ended source.new) (R.ended_before source.new) (R.faults source.new) (W.held sink.new) (W.last_offer sink.new) (W.faults sink.new) (C.moment clock.new)) result.end result.history }
-    ensures refused { result.end ≡ End.BadWords → (source.new ≡ source.old) × (sink.new ≡ sink.old) × (clock.new ≡ clock.old) }
-    ensures unopened { result.history ≡ [] → (source.new ≡ source.old) × (sink.new ≡ sink.old) × (clock.new ≡ clock.old) }
+    ensures refused { result.end ≡ End.BadWords → (source.new ≡ source.old) × (sink.new ≡ sink.old)
+        × (clock.new ≡ clock.old) }
+    ensures unopened { result.history ≡ [] → (source.new ≡ source.old) × (sink.new ≡ sink.old)
+        × (clock.new ≡ clock.old) }
 {
     if !is_session(words) {
         return unopened(alloc, End::BadWords);

@@ -115,7 +115,8 @@ impl Book {
     /// Notes what became of the read of a ticket, and answers whether its place still stands.
     pub fn settle(&mut self, ticket: Ticket, outcome: Outcome) -> bool
         ensures settles { result ≡ is_some (place_at self.old.places ticket) }
-        ensures after { self.new ≡ record self.old { places = settled self.old.places ticket outcome } }
+        ensures after { self.new ≡ record self.old
+            { places = settled self.old.places ticket outcome } }
     {
         match places::position_of(&self.places, ticket) {
             None => false,

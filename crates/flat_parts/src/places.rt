@@ -19,7 +19,8 @@ pub(crate) fn oldest(places: &[Place]) -> Option<&Place>
 
 /// What became of the read with this number, where its place still stands.
 pub(crate) fn outcome_of(places: &[Place], number: u64) -> Option<Outcome>
-    ensures { result ≡ option_map (λ (p : Place). p.outcome) (find (λ (p : Place). p.number == number) places.now) }
+    ensures { result ≡ option_map (λ (p : Place). p.outcome)
+        (find (λ (p : Place). p.number == number) places.now) }
 {
     places
         .iter()
@@ -53,7 +54,8 @@ pub(crate) fn release(places: &mut Vec<Place>, prior: Option<Ticket>)
 
 /// Drops the places of this key.
 pub(crate) fn forget(places: &mut Vec<Place>, key: &[u8])
-    ensures places { places_data places.new.items ≡ forgotten (places_data places.old.items) key.now }
+    ensures places { places_data places.new.items
+        ≡ forgotten (places_data places.old.items) key.now }
     ensures len { vec_len places.new ≤ vec_len places.old }
 {
     places.retain(|place| place.key.as_slice() != key);

@@ -188,7 +188,8 @@ impl FlatStripe {
     fn look(&self, key: &[u8], now: u64, value: &mut Out) -> Option<Step>
         requires { max_value ≤ value.old.spare }
         ensures step { result ≡ option_map (λ (l : Look). l.0) (look self.now key.now now) }
-        ensures value { value.new.bytes ≡ value.old.bytes ++ look_shows (look self.now key.now now) }
+        ensures value { value.new.bytes ≡ value.old.bytes
+            ++ look_shows (look self.now key.now now) }
         ensures room { value.new.spare + length value.new.bytes
             ≡ value.old.spare + length value.old.bytes }
     {

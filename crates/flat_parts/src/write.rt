@@ -113,7 +113,8 @@ fn put(
     ensures stripe { OnOk result (stripe.new ≡ stripe_after
         (record stripe.old { places = released stripe.old.places prior })
         (Puts key.now (doc_from meta value.now))) }
-    ensures queue { OnOk result (queue.new ≡ queue_after queue.old (Puts key.now (doc_from meta value.now))) }
+    ensures queue { OnOk result (queue.new ≡ queue_after queue.old
+        (Puts key.now (doc_from meta value.now))) }
     ensures err { OnErr result ((stripe.new ≡ stripe.old) × (queue.new ≡ queue.old)) }
 {
     let node = Node::copied(alloc, key, meta, value)?;

@@ -105,7 +105,8 @@ fn slot_pinned(table: &Table, eviction: Eviction, mark: u64, slot: u32) -> u32
 /// The same, but of the node of one key nothing.
 fn pinned_beside(table: &Table, eviction: Eviction, mark: u64, slot: u32, key: &[u8]) -> u32
     requires { slot < length table.now }
-    ensures { result ≡ cond (is_keyed key.now (at table.now slot)) 0 (slot_pinned eviction mark (at table.now slot)) }
+    ensures { result ≡ cond (is_keyed key.now (at table.now slot)) 0
+        (slot_pinned eviction mark (at table.now slot)) }
 {
     if table.has_key(slot, key) {
         0
@@ -133,8 +134,14 @@ pub(crate) fn put(table: &mut Table, key: &[u8], meta: Meta, value: &[u8])
     requires value { IsValue value.now }
     requires apart { AreApart table.old }
     requires keyed { AreKeyed table.old }
-    requires fits { Fits key.now (blocks_of (length key.now) + blocks_of (length value.now)) table.old }
-    ensures { table.new ≡ placed table.old (record { key = key.now; meta = meta; value = Some value.now; age = 0 }) }
+    requires fits { Fits key.now (blocks_of (length key.now) + blocks_of (length value.now))
+        table.old }
+    ensures { table.new ≡ placed table.old (record {
+      key = key.now;
+      meta = meta;
+      value = Some value.now;
+      age = 0;
+    }) }
 {
     match search::slot_of(table, key) {
         Some(slot) => {
@@ -154,7 +161,8 @@ pub(crate) fn put_ejected(table: &mut Table, key: &[u8], meta: Meta)
     requires absent { slot_of table.old key.now ≡ None }
     requires keyed { AreKeyed table.old }
     requires fits { used table.old + blocks_of (length key.now) ≤ length table.old }
-    ensures { table.new ≡ placed table.old (record { key = key.now; meta = meta; value = None; age = 0 }) }
+    ensures { table.new
+        ≡ placed table.old (record { key = key.now; meta = meta; value = None; age = 0 }) }
 {
     match table.first_empty() {
         Some(slot) => table.fill_ejected(slot, key, meta),

@@ -100,7 +100,8 @@ impl Stripe {
     pub fn find(&self, key: &[u8]) -> Found
         ensures shows { result ≡ found (node_at self.now.slots key.now) }
         ensures means { IsShown result (node_at self.now.slots key.now) }
-        ensures keyed { ForSome (node_at self.now.slots key.now) (λ (node : NodeData). node.key ≡ key.now) }
+        ensures keyed { ForSome (node_at self.now.slots key.now)
+            (λ (node : NodeData). node.key ≡ key.now) }
         ensures sound { IsSlot self.now.index self.now.stripes self.now.eviction self.now.mark
             (node_at self.now.slots key.now) }
     {
@@ -113,8 +114,10 @@ impl Stripe {
     /// Appends the value of a document that is resident. Its cost is linear in the number of slots and in the value.
     pub fn value_to(&self, key: &[u8], out: &mut Out)
         requires resident { is_some (resident_value (node_at self.now.slots key.now)) ≡ true }
-        requires room { length (text_of (resident_value (node_at self.now.slots key.now))) ≤ out.old.spare }
-        ensures bytes { out.new.bytes ≡ out.old.bytes ++ text_of (resident_value (node_at self.now.slots key.now)) }
+        requires room { length (text_of (resident_value (node_at self.now.slots key.now)))
+            ≤ out.old.spare }
+        ensures bytes { out.new.bytes ≡ out.old.bytes
+            ++ text_of (resident_value (node_at self.now.slots key.now)) }
         ensures room { out.new.spare + length out.new.bytes ≡ out.old.spare + length out.old.bytes }
     {
         if let Some(slot) = search::slot_of(&self.table, key) {
@@ -145,7 +148,8 @@ impl Stripe {
         ensures ejects { EjectsOthers self.old.eviction self.old.mark key.now
             (blocks_of (length key.now) + blocks_of len) self.old.slots self.new.slots }
         ensures rest { self.new ≡ record self.old { slots = self.new.slots } }
-        ensures ok { OnOk result (Fits key.now (blocks_of (length key.now) + blocks_of len) self.new.slots) }
+        ensures ok { OnOk result (Fits key.now (blocks_of (length key.now) + blocks_of len)
+            self.new.slots) }
         ensures last { OnErr result (victim self.old.mark key.now self.new.slots ≡ None) }
         ensures numbers { IfErr result (λ short.
             (short.free + others_blocks key.now self.new.slots ≡ length self.new.slots)
@@ -169,7 +173,8 @@ impl Stripe {
         requires value { IsValue value.now }
         requires len { meta.len ≡ length value.now }
         requires tombstone { meta.deleted ≡ true → value.now ≡ [] }
-        requires fits { Fits key.now (blocks_of (length key.now) + blocks_of (length value.now)) self.old.slots }
+        requires fits { Fits key.now (blocks_of (length key.now) + blocks_of (length value.now))
+            self.old.slots }
         ensures { self.new ≡ record self.old {
           slots = placed self.old.slots
               (record { key = key.now; meta = meta; value = Some value.now; age = 0 });
@@ -234,7 +239,8 @@ impl Stripe {
         ensures fits { OnOk result (Fits key.now
             (node_blocks (record { key = key.now; meta = meta; value = None; age = 0 })) self.old.slots) }
         ensures err { OnErr result (self.new ≡ self.old) }
-        ensures numbers { IfErr result (λ short. (short.free ≡ free_of self.old) × (short.need ≡ blocks_of (length key.now))) }
+        ensures numbers { IfErr result (λ short. (short.free ≡ free_of self.old)
+            × (short.need ≡ blocks_of (length key.now))) }
     {
         let need = rules::blocks(key.len()) as u32;
         let free = self.table.free();
@@ -249,7 +255,9 @@ impl Stripe {
     /// its node, and a tombstone's node under both. Its cost is linear in the number of slots.
     pub fn eject(&mut self, key: &[u8])
         requires { is_ejectable_slot self.old.mark (node_at self.old.slots key.now) ≡ true }
-        ensures { self.new ≡ record self.old { slots = at_key (eject_slot self.old.eviction) self.old.slots key.now } }
+        ensures { self.new ≡ record self.old {
+          slots = at_key (eject_slot self.old.eviction) self.old.slots key.now;
+        } }
     {
         if let Some(slot) = search::slot_of(&self.table, key) {
             room::eject(&mut self.table, self.eviction, slot);
@@ -266,7 +274,8 @@ impl Stripe {
     /// Appends the key of the document that is ejected next where room is made for a key without a node, and answers
     /// whether there is one. Its cost is linear in the number of slots.
     pub fn oldest(&self, out: &mut Out) -> bool
-        requires { length (key_of (node_in self.now.slots (victim self.now.mark [] self.now.slots))) ≤ out.old.spare }
+        requires { length (key_of (node_in self.now.slots (victim self.now.mark [] self.now.slots)))
+            ≤ out.old.spare }
         ensures some { result ≡ is_some (victim self.now.mark [] self.now.slots) }
         ensures key { out.new.bytes
             ≡ out.old.bytes ++ key_of (node_in self.now.slots (victim self.now.mark [] self.now.slots)) }

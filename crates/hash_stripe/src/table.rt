@@ -151,7 +151,8 @@ impl Table {
         requires slot { slot < length self.now }
         requires room { length (key_of (at self.now slot)) ≤ max_key }
         ensures len { result ≡ key_len_of (at self.now slot) }
-        ensures key { into.new ≡ key_of (at self.now slot) ++ drop (length (key_of (at self.now slot))) into.old }
+        ensures key { into.new ≡ key_of (at self.now slot)
+            ++ drop (length (key_of (at self.now slot))) into.old }
     {
         match self.slots.node(slot) {
             None => None,
@@ -163,7 +164,8 @@ impl Table {
     pub(crate) fn value_to(&self, slot: u32, out: &mut Out)
         requires slot { slot < length self.now }
         requires room { length (text_of (resident_value (at self.now slot))) ≤ out.old.spare }
-        ensures bytes { out.new.bytes ≡ out.old.bytes ++ text_of (resident_value (at self.now slot)) }
+        ensures bytes { out.new.bytes ≡ out.old.bytes
+            ++ text_of (resident_value (at self.now slot)) }
         ensures room { out.new.spare + length out.new.bytes ≡ out.old.spare + length out.old.bytes }
     {
         if let Some(node) = self.slots.node(slot) {
@@ -233,7 +235,8 @@ impl Table {
         requires empty { at self.old slot ≡ None }
         requires key { IsKey key.now }
         requires value { IsValue value.now }
-        requires room { used self.old + (blocks_of (length key.now) + blocks_of (length value.now)) ≤ length self.old }
+        requires room { used self.old + (blocks_of (length key.now) + blocks_of (length value.now))
+            ≤ length self.old }
         ensures { self.new ≡ slice_set self.old slot
             (Some (record { key = key.now; meta = meta; value = Some value.now; age = 0 })) }
     {
@@ -294,7 +297,8 @@ fn chain_blocks(pool: &Pool, chain: &Chain) -> u32
 
 /// How many blocks a node's value takes.
 fn value_blocks(pool: &Pool, node: &Node<Chain>) -> u32
-    ensures { MatchOption node.now.value (result ≡ 0) (λ c. result ≡ blocks_of (length (bytes_at pool.now c))) }
+    ensures { MatchOption node.now.value (result ≡ 0)
+        (λ c. result ≡ blocks_of (length (bytes_at pool.now c))) }
 {
     match &node.value {
         None => 0,
@@ -317,7 +321,8 @@ fn put(pool: &mut Pool, bytes: &[u8]) -> Chain
 /// Gives a node's value back to the pool.
 fn take_value(pool: &mut Pool, node: Node<Chain>) -> Node<Chain>
     ensures node { result ≡ record node { value = None } }
-    ensures pool { MatchOption node.value (pool.new ≡ pool.old) (λ c. TakesBack pool.old pool.new c) }
+    ensures pool { MatchOption node.value (pool.new ≡ pool.old)
+        (λ c. TakesBack pool.old pool.new c) }
 {
     let Node {
         key,
@@ -360,7 +365,8 @@ fn write_at(into: &mut [u8; MAX_KEY], at: usize, bytes: &[u8])
 fn copy(pool: &Pool, chain: &Chain, into: &mut [u8; MAX_KEY]) -> u8
     requires { length (bytes_at pool.now chain.now) ≤ max_key }
     ensures len { result ≡ length (bytes_at pool.now chain.now) }
-    ensures bytes { into.new ≡ bytes_at pool.now chain.now ++ drop (length (bytes_at pool.now chain.now)) into.old }
+    ensures bytes { into.new ≡ bytes_at pool.now chain.now
+        ++ drop (length (bytes_at pool.now chain.now)) into.old }
 {
     let mut at = 0;
     let mut pieces = pool.pieces(chain);

@@ -81,14 +81,19 @@ pub trait Stage {
         requires free { holds self.old part ≡ false }
         ensures stays { Stays lent fixed number is_desk is_telling self.old self.new }
         ensures room { (n b : ℕ) → covers self.old n b → covers self.new n b }
-        ensures grown { Grown (front self.old) (front self.new) (holds self.old) (number self.old) (is_desk self.old) }
+        ensures grown { Grown (front self.old) (front self.new) (holds self.old) (number self.old)
+            (is_desk self.old) }
         ensures legal { IsLegal (front self.new) }
         ensures kept { Keeps Self.Part.stands (holds self.old) (front self.old) (front self.new) }
-        ensures taken { MatchResult result (λ x. Self.Part.stands part (front self.new) x × (losses self.new ≡ losses self.old)) (λ b. (b.part ≡ part) × Rose (losses self.old) (losses self.new)) }
-        ensures held { MatchResult result (λ _. Same (holds self.new) (and_this part (holds self.old))) (λ _. Same (holds self.new) (holds self.old)) }
+        ensures taken { MatchResult result (λ x. Self.Part.stands part (front self.new) x
+            × (losses self.new ≡ losses self.old))
+            (λ b. (b.part ≡ part) × Rose (losses self.old) (losses self.new)) }
+        ensures held { MatchResult result (λ _. Same (holds self.new)
+            (and_this part (holds self.old))) (λ _. Same (holds self.new) (holds self.old)) }
         ensures elsewhere { IfErr result (λ _. elsewhere self.old part) }
         ensures alone { is_telling self.old ≡ true → front self.new ≡ front self.old }
-        ensures was_there { is_telling self.old ≡ true → MatchResult result (λ x. tells self.old part ≡ Some x) (λ _. tells self.old part ≡ None) }
+        ensures was_there { is_telling self.old ≡ true → MatchResult result
+            (λ x. tells self.old part ≡ Some x) (λ _. tells self.old part ≡ None) }
         ensures tells { is_telling self.old ≡ true → (p : PartName) → there (front self.old).config p ≡ true → tells self.new p ≡ (if same_part part p then None else tells self.old p) };
 
     /// Notes an event, which then stands last. Every part that it touches is held, it may happen behind the front,
@@ -99,19 +104,23 @@ pub trait Stage {
         requires own { IsOwn (number self.old) (is_desk self.old) (event_data event.now) }
         requires room { covers self.old 1 (bytes_of (event_data event.now)) }
         ensures stays { Stays lent fixed number is_desk is_telling self.old self.new }
-        ensures room { (n b : ℕ) → covers self.old (n + 1) (b + bytes_of (event_data event.now)) → covers self.new n b }
-        ensures noted { Noted Self.Part.stands (front self.old) (front self.new) (holds self.old) (number self.old) (is_desk self.old) (event_data event.now) }
+        ensures room { (n b : ℕ) → covers self.old (n + 1) (b + bytes_of (event_data event.now))
+            → covers self.new n b }
+        ensures noted { Noted Self.Part.stands (front self.old) (front self.new) (holds self.old)
+            (number self.old) (is_desk self.old) (event_data event.now) }
         ensures legal { IsLegal (front self.new) }
         ensures held { Same (holds self.new) (holds self.old) }
         ensures losses { losses self.new ≡ losses self.old }
-        ensures alone { is_telling self.old ≡ true → front self.new ≡ with_event (front self.old) (event_data event.now) }
+        ensures alone { is_telling self.old ≡ true → front self.new
+            ≡ with_event (front self.old) (event_data event.now) }
         ensures tells { is_telling self.old ≡ true → (p : PartName) → tells self.new p ≡ tells self.old p };
 
     /// Learns what others noted.
     fn look(&mut self)
         ensures stays { Stays lent fixed number is_desk is_telling self.old self.new }
         ensures room { (n b : ℕ) → covers self.old n b → covers self.new n b }
-        ensures grown { Grown (front self.old) (front self.new) (holds self.old) (number self.old) (is_desk self.old) }
+        ensures grown { Grown (front self.old) (front self.new) (holds self.old) (number self.old)
+            (is_desk self.old) }
         ensures legal { IsLegal (front self.new) }
         ensures kept { Keeps Self.Part.stands (holds self.old) (front self.old) (front self.new) }
         ensures held { Same (holds self.new) (holds self.old) }
@@ -123,14 +132,17 @@ pub trait Stage {
     fn begin<B: Beginning>(&mut self)
         requires none { (front self.old).start ≡ None }
         requires desk { is_desk self.old ≡ true }
-        requires all { (p : PartName) → there (front self.old).config p ≡ true → holds self.old p ≡ true }
+        requires all { (p : PartName) → there (front self.old).config p ≡ true → holds self.old p
+            ≡ true }
         ensures stays { Stays lent fixed number is_desk is_telling self.old self.new }
         ensures room { (n b : ℕ) → covers self.old n b → covers self.new n b }
-        ensures begun { Begun (front self.old) (front self.new) (holds self.old) (number self.old) B.start }
+        ensures begun { Begun (front self.old) (front self.new) (holds self.old) (number self.old)
+            B.start }
         ensures legal { IsLegal (front self.new) }
         ensures held { Same (holds self.new) (holds self.old) }
         ensures losses { losses self.new ≡ losses self.old }
-        ensures alone { is_telling self.old ≡ true → front self.new ≡ with_start (front self.old) (Some B.start) }
+        ensures alone { is_telling self.old ≡ true → front self.new
+            ≡ with_start (front self.old) (Some B.start) }
         ensures tells { is_telling self.old ≡ true → (p : PartName) → tells self.new p ≡ tells self.old p };
 
     /// Gives a part back, which stands for the front.

@@ -111,7 +111,8 @@ impl Keeper for MemoryKeeper {
     /// Its cost is linear in the product of the numbers of documents and of the batch's rows. Where memory is
     /// wanting, nothing has changed.
     fn commit(&mut self, alloc: Global, batch: &Batch, state: &StoreState) -> Kept<()>
-        ensures commits { Commits (keeper_of self.old) batch.now state.now (keeper_of self.new) result }
+        ensures commits { Commits (keeper_of self.old) batch.now state.now (keeper_of self.new)
+            result }
         ensures memory { OnNoMemory result ((keeper_of self.old).roomy ≡ false) }
         ensures never_fails { result ≡ Kept.Failed → ⊥ }
         ensures after { self.new ≡ memory_after_commit self.old batch.now state.now result }

@@ -104,7 +104,8 @@ impl Feeder {
         requires some { 0 < most }
         requires piece { most ≤ 65536 }
         requires place { self.old.at + length self.old.rest + most < 2 ^ 64 }
-        ensures feeds { Feeds result self.old.rest self.new.rest (R.left source.old) (R.left source.new) }
+        ensures feeds { Feeds result self.old.rest self.new.rest (R.left source.old)
+            (R.left source.new) }
         ensures at { self.new.at ≡ self.old.at }
         ensures count { (n : ℕ) → result ≡ Got.Bytes n → (0 < n) × (n ≤ most) }
         ensures ended { R.has_ended source.new ≡ (R.has_ended source.old || is_end result) }
@@ -123,7 +124,8 @@ impl Feeder {
     /// Hands out the next frame, in constant time. At anything else it changes nothing, and answers the same again.
     pub fn next(&mut self) -> Next<'_>
         ensures gives { Gives self.old result }
-        ensures* after { sem 𝓛 (Rests the_row self.entry (λ new. new ≡ after_next self.old result)) }
+        ensures* after { sem 𝓛 (Rests the_row self.entry
+            (λ new. new ≡ after_next self.old result)) }
     {
         let next = look(&self.buffer[self.start..self.end], self.at);
         if let Next::Frame(frame) = next {
@@ -178,7 +180,8 @@ fn make_way(buffer: &mut [u8], start: usize, end: usize, count: usize) -> (usize
     ensures ordered { result.0 ≤ result.1 }
     ensures held { result.1 - result.0 ≡ end - start }
     ensures room { result.1 + count ≤ feeder_room }
-    ensures same { take (result.1 - result.0) (drop result.0 buffer.new) ≡ take (end - start) (drop start buffer.old) }
+    ensures same { take (result.1 - result.0) (drop result.0 buffer.new)
+        ≡ take (end - start) (drop start buffer.old) }
 {
     if is_move_due(start, end, count) {
         move_to_front(buffer, start, end);
@@ -199,7 +202,8 @@ fn move_to_front(buffer: &mut [u8], start: usize, end: usize)
 // Writes the bytes from `at` on.
 fn write_at(buffer: &mut [u8], at: usize, bytes: &[u8])
     requires { at + length bytes.now ≤ length buffer.old }
-    ensures { buffer.new ≡ take at buffer.old ++ bytes.now ++ drop (at + length bytes.now) buffer.old }
+    ensures { buffer.new ≡ take at buffer.old ++ bytes.now
+        ++ drop (at + length bytes.now) buffer.old }
 {
     buffer[at..at + bytes.len()].copy_from_slice(bytes);
 }
@@ -218,7 +222,8 @@ fn count_of(got: Got) -> usize
 fn read_at<R: Source>(buffer: &mut [u8], at: usize, most: usize, source: &mut R) -> Got
     requires some { 0 < most }
     requires within { at + most ≤ length buffer.old }
-    ensures takes { TakesBytes (R.left source.old) (R.left source.new) (bytes_read result (drop at buffer.new)) }
+    ensures takes { TakesBytes (R.left source.old) (R.left source.new)
+        (bytes_read result (drop at buffer.new)) }
     ensures kept { take at buffer.new ≡ take at buffer.old }
     ensures count { (n : ℕ) → result ≡ Got.Bytes n → (0 < n) × (n ≤ most) }
     ensures ended { R.has_ended source.new ≡ (R.has_ended source.old || is_end result) }

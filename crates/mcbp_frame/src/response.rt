@@ -22,8 +22,10 @@ pub fn put_response(
     requires extras_fit { length extras.now < 2 ^ 8 }
     requires key_fits { length key.now < 2 ^ 16 }
 
-    ensures bytes { out.new.bytes ≡ out.old.bytes ++ response opcode status opaque cas datatype extras.now key.now value.now }
-    ensures spare { out.new.spare + (24 + length extras.now + length key.now + length value.now) ≡ out.old.spare }
+    ensures bytes { out.new.bytes ≡ out.old.bytes
+        ++ response opcode status opaque cas datatype extras.now key.now value.now }
+    ensures spare { out.new.spare + (24 + length extras.now + length key.now + length value.now)
+        ≡ out.old.spare }
 {
     let extras_len = extras.len() as u8;
     let [k0, k1] = (key.len() as u16).to_be_bytes();

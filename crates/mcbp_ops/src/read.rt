@@ -32,7 +32,8 @@ fn state_of(number: u32) -> Option<VbState>
 
 fn store_call<'a>(kind: StoreKind, parts: Parts<'a>, cas: u64) -> Call<'a>
     requires { length parts.extras.now ≡ 8 }
-    ensures { call_data result ≡ calls.Store kind parts.entry.key.now parts.entry.value.now (big_number 4 parts.entry.extras.now) (big_number 4 (drop 4 parts.entry.extras.now)) cas }
+    ensures { call_data result ≡ calls.Store kind parts.entry.key.now parts.entry.value.now
+        (big_number 4 parts.entry.extras.now) (big_number 4 (drop 4 parts.entry.extras.now)) cas }
 {
     Call::Store {
         kind,
@@ -46,7 +47,9 @@ fn store_call<'a>(kind: StoreKind, parts: Parts<'a>, cas: u64) -> Call<'a>
 
 fn count_call<'a>(down: bool, parts: Parts<'a>, cas: u64) -> Call<'a>
     requires { length parts.extras.now ≡ 20 }
-    ensures { call_data result ≡ calls.Count down parts.entry.key.now (big_number 8 parts.entry.extras.now) (big_number 8 (drop 8 parts.entry.extras.now)) (big_number 4 (drop 16 parts.entry.extras.now)) cas }
+    ensures { call_data result ≡ calls.Count down parts.entry.key.now
+        (big_number 8 parts.entry.extras.now) (big_number 8 (drop 8 parts.entry.extras.now))
+        (big_number 4 (drop 16 parts.entry.extras.now)) cas }
 {
     Call::Count {
         down,
@@ -61,7 +64,8 @@ fn count_call<'a>(down: bool, parts: Parts<'a>, cas: u64) -> Call<'a>
 // A state is a number of one byte or of four.
 fn set_state_call<'a>(extras: &[u8]) -> Result<Call<'a>, Bad>
     requires { (length extras.now ≡ 1) ⊎ (length extras.now ≡ 4) }
-    ensures { call_result result ≡ ok_or (option_map calls.SetState (state_of (state_number extras.now))) Bad.Invalid }
+    ensures { call_result result ≡ ok_or (option_map calls.SetState
+        (state_of (state_number extras.now))) Bad.Invalid }
 {
     let number = match extras {
         [state] => u32::from(*state),
@@ -120,7 +124,8 @@ pub fn read_call<'a>(frame: &Frame<'a>) -> Result<Op<'a>, Bad>
     ensures within { IfOk result (λ op. IsWithinOp (op_data op)) }
 
     // The extras and the key of what isn't refused lie in the body.
-    ensures parts { OnOk result (frame.now.extras_len + frame.now.key_len ≤ length frame.now.body.now) }
+    ensures parts { OnOk result (frame.now.extras_len + frame.now.key_len
+        ≤ length frame.now.body.now) }
 {
     let kind = kind_of(frame.opcode)?;
     check_shape(frame, shape_of(kind))?;

@@ -35,10 +35,12 @@ pub fn is_silent(opcode: u8, status: u16) -> bool
 
 // Appends a response to a frame, of no data type.
 fn put(out: &mut Out, frame: &Frame, status: u16, cas: u64, extras: &[u8], key: &[u8], value: &[u8])
-    requires spare { length (answer_text (frame_data frame.now) status cas extras.now key.now value.now) ≤ out.old.spare }
+    requires spare { length (answer_text (frame_data frame.now) status cas extras.now key.now
+        value.now) ≤ out.old.spare }
     requires extras_fit { length extras.now < 2 ^ 8 }
     requires key_fits { length key.now < 2 ^ 16 }
-    ensures bytes { out.new.bytes ≡ out.old.bytes ++ answer_text (frame_data frame.now) status cas extras.now key.now value.now }
+    ensures bytes { out.new.bytes ≡ out.old.bytes
+        ++ answer_text (frame_data frame.now) status cas extras.now key.now value.now }
     ensures room { out.new.spare + length out.new.bytes ≡ out.old.spare + length out.old.bytes }
 {
     put_response(
@@ -84,8 +86,11 @@ fn stamp_of(reply: &Reply) -> [u8; 16]
 
 // Appends the success of a mutation, which shows its uuid and its sequence number where that is asked for.
 fn put_mutation(out: &mut Out, frame: &Frame, reply: &Reply, value: &[u8], seqno_feature: bool)
-    requires { length (answer_text (frame_data frame.now) SUCCESS reply.now.cas (mutation_extras reply.now seqno_feature) [] value.now) ≤ out.old.spare }
-    ensures bytes { out.new.bytes ≡ out.old.bytes ++ answer_text (frame_data frame.now) SUCCESS reply.now.cas (mutation_extras reply.now seqno_feature) [] value.now }
+    requires { length (answer_text (frame_data frame.now) SUCCESS reply.now.cas
+        (mutation_extras reply.now seqno_feature) [] value.now) ≤ out.old.spare }
+    ensures bytes { out.new.bytes ≡ out.old.bytes
+        ++ answer_text (frame_data frame.now) SUCCESS reply.now.cas
+        (mutation_extras reply.now seqno_feature) [] value.now }
     ensures room { out.new.spare + length out.new.bytes ≡ out.old.spare + length out.old.bytes }
 {
     if seqno_feature {
@@ -105,8 +110,10 @@ fn put_success(
     value: &[u8],
     seqno_feature: bool,
 )
-    requires { length (success_text (frame_data frame.now) reply.now value.now seqno_feature kind) ≤ out.old.spare }
-    ensures bytes { out.new.bytes ≡ out.old.bytes ++ success_text (frame_data frame.now) reply.now value.now seqno_feature kind }
+    requires { length (success_text (frame_data frame.now) reply.now value.now seqno_feature kind)
+        ≤ out.old.spare }
+    ensures bytes { out.new.bytes ≡ out.old.bytes
+        ++ success_text (frame_data frame.now) reply.now value.now seqno_feature kind }
     ensures room { out.new.spare + length out.new.bytes ≡ out.old.spare + length out.old.bytes }
 {
     let cas = reply.cas;
@@ -135,8 +142,10 @@ fn put_success(
 /// number of a mutation; another status stands alone. Its cost is linear in the lengths of key and value. Its text is no
 /// longer than 40 bytes with the key and the value (`reply_text_fits`).
 pub fn reply_text(frame: &Frame, reply: &Reply, value: &[u8], seqno_feature: bool, out: &mut Out)
-    requires { length (reply_text (frame_data frame.now) reply.now value.now seqno_feature) ≤ out.old.spare }
-    ensures bytes { out.new.bytes ≡ out.old.bytes ++ reply_text (frame_data frame.now) reply.now value.now seqno_feature }
+    requires { length (reply_text (frame_data frame.now) reply.now value.now seqno_feature)
+        ≤ out.old.spare }
+    ensures bytes { out.new.bytes ≡ out.old.bytes
+        ++ reply_text (frame_data frame.now) reply.now value.now seqno_feature }
     ensures room { out.new.spare + length out.new.bytes ≡ out.old.spare + length out.old.bytes }
 {
     if is_silent(frame.opcode, reply.status) {

@@ -40,7 +40,8 @@ impl Model for PlainCheckpoints {
 
 // The place of the first document of the key.
 fn position_of(items: &[PlainItem], key: &[u8]) -> Option<usize>
-    ensures { result ≡ position_from (λ (item : PlainItem). bytes_eq item.key.items key.now) 0 items.now }
+    ensures { result ≡ position_from (λ (item : PlainItem). bytes_eq item.key.items key.now) 0
+        items.now }
 {
     items.iter().position(|item| item.key.as_slice() == key)
 }
@@ -85,7 +86,8 @@ fn other_cost(item: &PlainItem, number: u64, key: &[u8]) -> u64
 
 // The blocks of the documents of other keys above a number, at most 2^64 - 1.
 fn blocks_but(items: &[PlainItem], number: u64, key: &[u8]) -> u64
-    ensures { result ≡ min (item_blocks (above number (but_item key.now (items_data items.now)))) (2 ^ 64 - 1) }
+    ensures { result ≡ min (item_blocks (above number (but_item key.now (items_data items.now))))
+        (2 ^ 64 - 1) }
 {
     let mut total = 0u64;
     for index in 0..items.len() {
@@ -96,7 +98,9 @@ fn blocks_but(items: &[PlainItem], number: u64, key: &[u8]) -> u64
 
 // The same with this document in place of its key's.
 fn blocks_open(items: &[PlainItem], number: u64, item: &PlainItem) -> u64
-    ensures { result ≡ min (item_blocks (above number (but_item item.now.key.items (items_data items.now) ++ item_data item.now ∷ []))) (2 ^ 64 - 1) }
+    ensures { result ≡ min (item_blocks (above number
+        (but_item item.now.key.items (items_data items.now) ++ item_data item.now ∷ [])))
+        (2 ^ 64 - 1) }
 {
     cost(item, number).saturating_add(blocks_but(items, number, &item.key))
 }
@@ -198,7 +202,8 @@ impl PlainCheckpoints {
     ) -> Result<(), NoMemory>
         requires id { self.old.last.id + 1 < 2 ^ 64 }
         requires puts { option_map item_data puts ≡ mutation_of world.now (event_data event.now) }
-        ensures ok { OnOk result (self.new ≡ cut_after most world.now self.old (event_data event.now)) }
+        ensures ok { OnOk result (self.new ≡ cut_after most world.now self.old
+            (event_data event.now)) }
         ensures err { OnErr result (self.new ≡ self.old) }
     {
         if let Event::Persisted { .. } = *event {
@@ -224,7 +229,8 @@ impl PlainCheckpoints {
     /// The blocks of what would be kept with this mutation queued too, where all mutations up to a number are stored and
     /// checkpoints have at most `most` keys. They are at most 2^64 - 1.
     pub fn blocks_with(&self, most: u32, number: u64, item: &PlainItem) -> u64
-        ensures { result ≡ min (item_blocks (items_above number (queued most (item_data item.now) self.now))) (2 ^ 64 - 1) }
+        ensures { result ≡ min (item_blocks (items_above number
+            (queued most (item_data item.now) self.now))) (2 ^ 64 - 1) }
     {
         let mut total = blocks_open(&self.last.items, number, item);
         for index in 0..self.closed.len() {

@@ -56,7 +56,8 @@ impl PlainWorld {
     ) -> Result<Option<PlainItem>, NoMemory>
         requires key { IsKey key.now }
         requires numbers { (self.now.high + 1 < 2 ^ 64) × (self.now.maxcas + 1 < 2 ^ 64) }
-        ensures { IfOk result (λ puts. option_map item_data puts ≡ put_by (answer self.now (DeleteData key.now cas) now).effect) }
+        ensures { IfOk result (λ puts. option_map item_data puts
+            ≡ put_by (answer self.now (DeleteData key.now cas) now).effect) }
     {
         let refused = rules::state_refusal(self.state(), true)
             .or(rules::wanted_refusal(cas, self.live_cas(key, now)))
@@ -69,7 +70,8 @@ impl PlainWorld {
 
     /// What a Get puts, which is nothing.
     pub fn get_puts(&self, key: &[u8], now: u64) -> Option<&PlainItem>
-        ensures { option_map item_data (option_copied result) ≡ put_by (answer self.now (GetData key.now) now).effect }
+        ensures { option_map item_data (option_copied result)
+            ≡ put_by (answer self.now (GetData key.now) now).effect }
     {
         None
     }
@@ -85,7 +87,8 @@ impl PlainWorld {
     ) -> Result<Option<PlainItem>, NoMemory>
         requires within { IsWithin (call_data call.now) }
         requires numbers { (self.now.high + 1 < 2 ^ 64) × (self.now.maxcas + 1 < 2 ^ 64) }
-        ensures { IfOk result (λ puts. option_map item_data puts ≡ put_by (seen_effect self.now (call_data call.now) now reply.now)) }
+        ensures { IfOk result (λ puts. option_map item_data puts
+            ≡ put_by (seen_effect self.now (call_data call.now) now reply.now)) }
     {
         match *call {
             Call::Store { key, .. }
@@ -121,7 +124,8 @@ impl PlainWorld {
         requires key { IsKey key.now }
         requires value { IsValue value.now }
         requires numbers { (self.now.high + 1 < 2 ^ 64) × (self.now.maxcas + 1 < 2 ^ 64) }
-        ensures { IfOk result (λ item. item_data item ≡ (key.now, next_doc self.now value.now flags expiry deleted now)) }
+        ensures { IfOk result (λ item. item_data item
+            ≡ (key.now, next_doc self.now value.now flags expiry deleted now)) }
     {
         Ok(PlainItem {
             key: key.to_vec(alloc)?,

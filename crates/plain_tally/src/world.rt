@@ -50,7 +50,8 @@ impl Model for PlainWorld {
 
 // The first document of a key.
 fn item_of<'a>(items: &'a [PlainItem], key: &[u8]) -> Option<&'a PlainItem>
-    ensures { option_copied result ≡ find (λ (item : PlainItem). bytes_eq item.key.items key.now) items.now }
+    ensures { option_copied result ≡ find (λ (item : PlainItem). bytes_eq item.key.items key.now)
+        items.now }
 {
     items.iter().find(|item| item.key.as_slice() == key)
 }
@@ -58,7 +59,8 @@ fn item_of<'a>(items: &'a [PlainItem], key: &[u8]) -> Option<&'a PlainItem>
 // The blocks of a key's document, where that stands and isn't deleted.
 fn standing_blocks(key: &[u8], document: Option<&PlainItem>) -> u64
     requires { IsKey key.now }
-    ensures { result ≡ standing_blocks key.now (option_map doc_data (option_copied document.entry)) }
+    ensures { result ≡ standing_blocks key.now
+        (option_map doc_data (option_copied document.entry)) }
 {
     match document {
         Some(item) if !item.deleted => {
@@ -147,7 +149,8 @@ impl PlainWorld {
     /// the old document those of that, if they are more.
     pub fn need(&self, key: &[u8], call: &Call, now: u64, puts: Option<&PlainItem>) -> u64
         requires key { IsKey key.now }
-        requires puts { option_map item_data (option_copied puts) ≡ put_by (answer self.now (call_data call.now) now).effect }
+        requires puts { option_map item_data (option_copied puts)
+            ≡ put_by (answer self.now (call_data call.now) now).effect }
         ensures { result ≡ need self.now key.now (call_data call.now) now }
     {
         blocks_of(puts).max(self.old_blocks(key, call))
@@ -168,7 +171,8 @@ impl PlainWorld {
     /// The pinned blocks of the key's stripe but for the key's, at most 2^64 - 1, where all mutations up to `mark` are
     /// known there to be stored.
     pub fn pinned(&self, mark: u64, key: &[u8]) -> u64
-        ensures { result ≡ min (pinned self.now (stripe_of key.now self.now.stripes) mark key.now) (2 ^ 64 - 1) }
+        ensures { result ≡ min (pinned self.now (stripe_of key.now self.now.stripes) mark key.now)
+            (2 ^ 64 - 1) }
     {
         let stripe = stripe_of(key, self.stripes);
         pinned(
@@ -194,8 +198,10 @@ impl PlainWorld {
         puts: Option<&PlainItem>,
     ) -> bool
         requires key { IsKey key.now }
-        requires puts { option_map item_data (option_copied puts) ≡ put_by (answer self.now (call_data call.now) now).effect }
-        ensures { result ≡ is_short_at config.now self.now mark checkpoints.now key.now (call_data call.now) now }
+        requires puts { option_map item_data (option_copied puts)
+            ≡ put_by (answer self.now (call_data call.now) now).effect }
+        ensures { result ≡ is_short_at config.now self.now mark checkpoints.now key.now
+            (call_data call.now) now }
     {
         self.stripe_is_full(config.blocks, mark, key, call, now, puts)
             || is_overfull(config, self.persisted, checkpoints, puts)
@@ -212,7 +218,8 @@ impl PlainWorld {
         puts: Option<&PlainItem>,
     ) -> bool
         requires key { IsKey key.now }
-        requires puts { option_map item_data (option_copied puts) ≡ put_by (answer self.now (call_data call.now) now).effect }
+        requires puts { option_map item_data (option_copied puts)
+            ≡ put_by (answer self.now (call_data call.now) now).effect }
         ensures { result ≡ stripe_is_full_at blocks self.now mark key.now (call_data call.now) now }
     {
         let need = self.need(key, call, now, puts);
@@ -247,7 +254,8 @@ fn is_overfull(
     checkpoints: &PlainCheckpoints,
     puts: Option<&PlainItem>,
 ) -> bool
-    ensures { result ≡ is_overfull_at config.now.ckpt_blocks config.now.ckpt_max persisted checkpoints.now (option_map item_data (option_copied puts.entry)) }
+    ensures { result ≡ is_overfull_at config.now.ckpt_blocks config.now.ckpt_max persisted
+        checkpoints.now (option_map item_data (option_copied puts.entry)) }
 {
     match puts {
         Some(item) => {

@@ -87,7 +87,8 @@ pub fn begin<P: Stands, B: Beginning>(board: &Board<P>, seat: &mut Seat<P>)
     requires rest { IsResting seat.old.me }
     requires none { ((seat.old.me.0).front).start ≡ None }
     requires desk { (seat.old.me.0).desk ≡ true }
-    requires all { (p : PartName) → there ((seat.old.me.0).front).config p ≡ true → has (seat.old.me.0).held p ≡ true }
+    requires all { (p : PartName) → there ((seat.old.me.0).front).config p ≡ true
+        → has (seat.old.me.0).held p ≡ true }
     ensures board { seat.new.table_id ≡ seat.old.table_id }
     ensures rest { IsResting seat.new.me }
     ensures begun { Begins B.start seat.old.me seat.new.me }
@@ -113,7 +114,8 @@ pub fn give<P: Stands + Drop>(
     requires stands { P.stands part (seat.old.me.0).front value }
     ensures board { seat.new.table_id ≡ seat.old.table_id }
     ensures rest { IsResting seat.new.me }
-    ensures given { seat.new.me.0 ≡ record (seat.old.me.0) { held = without_part part (seat.old.me.0).held } }
+    ensures given { seat.new.me.0 ≡ record (seat.old.me.0)
+        { held = without_part part (seat.old.me.0).held } }
 {
     board.load::<PicksUp>(seat, slot + 1);
     board.exchange(seat, slot, Some(value));

@@ -77,7 +77,9 @@ fn refuse<S: Stage<Part = Tally>>(
     ensures stays { Stays S.lent S.fixed S.number S.is_desk S.is_telling stage.old stage.new }
     ensures none { IsNone (S.holds stage.new) }
     ensures config { (S.front stage.new).config ≡ (S.front stage.old).config }
-    ensures went { Went (S.front stage.old) (S.front stage.new) (S.holds stage.old) (S.number stage.old) (S.is_desk stage.old) (noted_by (refusal (S.number stage.old) key.now now) result) }
+    ensures went { Went (S.front stage.old) (S.front stage.new) (S.holds stage.old)
+        (S.number stage.old) (S.is_desk stage.old)
+        (noted_by (refusal (S.number stage.old) key.now now) result) }
 {
     let caller = stage.caller();
     let part = PartName::Stripe(stripe_of(key, stripes));
@@ -101,7 +103,8 @@ fn refuse_at(turns: &Turns<Tally>, pass: &mut TurnPass<Tally>, key: &[u8], now: 
     requires of { IsPassOf turns.now pass.old }
     requires stripes { turns.now.config.stripes ≡ 4 }
     requires none { IsNone (has (view_of pass.old).held) }
-    ensures ran { Ran turns.now pass.old pass.new (only_if result (refusal (view_of pass.old).caller key.now now)) }
+    ensures ran { Ran turns.now pass.old pass.new
+        (only_if result (refusal (view_of pass.old).caller key.now now)) }
 {
     let mut stage = turns.stage(pass);
     refuse(&mut stage, key, now, 4).is_ok()
@@ -151,7 +154,8 @@ fn run_two<R: Threads + Sync>(
     requires none { IsNone (has (view_of one).held) × IsNone (has (view_of other).held) }
     requires first { first < 3 }
     ensures one { Ran turns.now one result.0.0 (made (view_of one).caller first result.0.1) }
-    ensures other { Ran turns.now other result.1.0 (made (view_of other).caller (first + 1) result.1.1) }
+    ensures other { Ran turns.now other result.1.0
+        (made (view_of other).caller (first + 1) result.1.1) }
 {
     thread::join(
         rt,
@@ -167,7 +171,8 @@ fn run_two<R: Threads + Sync>(
             requires stripes { turns.now.config.stripes ≡ 4 }
             requires none { IsNone (has (view_of other).held) }
             requires first { first < 3 }
-            ensures { Ran turns.entry.now other result.0 (made (view_of other).caller (first + 1) result.1) }
+            ensures { Ran turns.entry.now other result.0
+                (made (view_of other).caller (first + 1) result.1) }
         { run(turns, other, first + 1) },
     )
 }
@@ -345,15 +350,19 @@ fn run_four<R: Threads + Sync>(
             requires of { IsPassOf turns.now first × IsPassOf turns.now second }
             requires stripes { turns.now.config.stripes ≡ 4 }
             requires none { IsNone (has (view_of first).held) × IsNone (has (view_of second).held) }
-            ensures one { Ran turns.entry.now first result.0.0 (made (view_of first).caller 0 result.0.1) }
-            ensures other { Ran turns.entry.now second result.1.0 (made (view_of second).caller 1 result.1.1) }
+            ensures one { Ran turns.entry.now first result.0.0
+                (made (view_of first).caller 0 result.0.1) }
+            ensures other { Ran turns.entry.now second result.1.0
+                (made (view_of second).caller 1 result.1.1) }
         { run_two(rt, turns, first, second, 0) },
         move || -> ((TurnPass<Tally>, u32), (TurnPass<Tally>, u32))
             requires of { IsPassOf turns.now third × IsPassOf turns.now fourth }
             requires stripes { turns.now.config.stripes ≡ 4 }
             requires none { IsNone (has (view_of third).held) × IsNone (has (view_of fourth).held) }
-            ensures one { Ran turns.entry.now third result.0.0 (made (view_of third).caller 2 result.0.1) }
-            ensures other { Ran turns.entry.now fourth result.1.0 (made (view_of fourth).caller 3 result.1.1) }
+            ensures one { Ran turns.entry.now third result.0.0
+                (made (view_of third).caller 2 result.0.1) }
+            ensures other { Ran turns.entry.now fourth result.1.0
+                (made (view_of fourth).caller 3 result.1.1) }
         { run_two(rt, turns, third, fourth, 2) },
     );
     turns.join(&mut first, second);
@@ -369,7 +378,8 @@ fn close_made(turns: Turns<Tally>, pass: TurnPass<Tally>, first: u32, others: &[
     requires alone { (view_of pass).share ≡ 2 ^ 64 }
     requires none { IsNone (has (view_of pass).held) }
     requires joined { HasJoined (view_of pass) first others.now }
-    ensures parts { AreParts (λ part front _. IsClosed part front) (view_of pass).front result.items }
+    ensures parts { AreParts (λ part front _. IsClosed part front) (view_of pass).front
+        result.items }
     ensures legal { IsLegal (view_of pass).front }
     ensures made { AreMade (view_of pass).front 0 (first ∷ others.now) }
 {

@@ -39,7 +39,8 @@ impl<P: Stands + Drop> Turns<P> {
         requires of { IsPassOf self.now pass.old }
         requires there { there (view_of pass.old).front.config part ≡ true }
         ensures of { IsPassOf self.now pass.new }
-        ensures taken { IfOk result (λ x. Taken P.stands part (view_of pass.old) (view_of pass.new) x) }
+        ensures taken { IfOk result (λ x. Taken P.stands part (view_of pass.old) (view_of pass.new)
+            x) }
         ensures busy { IfErr result (λ b. b.part ≡ part) }
         ensures lost { OnErr result (Missed P.stands part (view_of pass.old) (view_of pass.new)) }
     {
@@ -62,9 +63,11 @@ impl<P: Stands + Drop> Turns<P> {
     // Notes an event.
     pub(crate) fn note(&self, pass: &mut TurnPass<P>, event: &Event)
         requires of { IsPassOf self.now pass.old }
-        requires covered { Covered (has (view_of pass.old).held) (view_of pass.old).front (event_data event.now) }
+        requires covered { Covered (has (view_of pass.old).held) (view_of pass.old).front
+            (event_data event.now) }
         requires may { May (view_of pass.old).front (event_data event.now) }
-        requires own { IsOwn (view_of pass.old).caller (view_of pass.old).desk (event_data event.now) }
+        requires own { IsOwn (view_of pass.old).caller (view_of pass.old).desk
+            (event_data event.now) }
         ensures of { IsPassOf self.now pass.new }
         ensures noted { Notes P.stands (event_data event.now) pass.old.seat.me pass.new.seat.me }
     {
@@ -75,9 +78,11 @@ impl<P: Stands + Drop> Turns<P> {
     fn note_named<E: Noting>(&self, pass: &mut TurnPass<P>, _event: &Event)
         requires named { E.event ≡ event_data _event.now }
         requires of { IsPassOf self.now pass.old }
-        requires covered { Covered (has (view_of pass.old).held) (view_of pass.old).front (event_data _event.now) }
+        requires covered { Covered (has (view_of pass.old).held) (view_of pass.old).front
+            (event_data _event.now) }
         requires may { May (view_of pass.old).front (event_data _event.now) }
-        requires own { IsOwn (view_of pass.old).caller (view_of pass.old).desk (event_data _event.now) }
+        requires own { IsOwn (view_of pass.old).caller (view_of pass.old).desk
+            (event_data _event.now) }
         ensures of { IsPassOf self.now pass.new }
         ensures noted { Notes P.stands (event_data _event.now) pass.old.seat.me pass.new.seat.me }
     {
@@ -89,7 +94,8 @@ impl<P: Stands + Drop> Turns<P> {
         requires of { IsPassOf self.now pass.old }
         requires none { (view_of pass.old).front.start ≡ None }
         requires desk { (view_of pass.old).desk ≡ true }
-        requires all { (p : PartName) → there (view_of pass.old).front.config p ≡ true → has (view_of pass.old).held p ≡ true }
+        requires all { (p : PartName) → there (view_of pass.old).front.config p ≡ true
+            → has (view_of pass.old).held p ≡ true }
         ensures of { IsPassOf self.now pass.new }
         ensures begun { Begins B.start pass.old.seat.me pass.new.seat.me }
     {
@@ -102,7 +108,8 @@ impl<P: Stands + Drop> Turns<P> {
         requires held { has (view_of pass.old).held part ≡ true }
         requires stands { P.stands part (view_of pass.old).front value }
         ensures of { IsPassOf self.now pass.new }
-        ensures given { view_of pass.new ≡ record (view_of pass.old) { held = without_part part (view_of pass.old).held } }
+        ensures given { view_of pass.new ≡ record (view_of pass.old)
+            { held = without_part part (view_of pass.old).held } }
     {
         let slot = slot_of(&self.config, part);
         atomic::give(&self.table.shared, &mut pass.seat, part, slot, value);

@@ -88,7 +88,8 @@ impl Pool {
         requires { length bytes.now ≤ 1048576 }
         ensures enough { blocks_of (length bytes.now) ≤ self.old.free → IsOk result }
         ensures puts { IfOk result (λ chain. Puts self.old self.new chain bytes.now) }
-        ensures short { IfErr result (λ s. (s.free ≡ self.old.free) × (s.need ≡ blocks_of (length bytes.now)) × (s.free < s.need)) }
+        ensures short { IfErr result (λ s. (s.free ≡ self.old.free)
+            × (s.need ≡ blocks_of (length bytes.now)) × (s.free < s.need)) }
         ensures err { OnErr result (self.new ≡ self.old) }
     {
         let len = bytes.len() as u32;

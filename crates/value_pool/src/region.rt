@@ -35,7 +35,8 @@ fn lay(block: &mut [u8; BLOCK], piece: &[u8])
 // Puts the bytes into the blocks from `first` on, and answers the block behind them.
 pub fn write(region: &mut [[u8; BLOCK]], links: &[u32], first: u32, bytes: &[u8]) -> u32
     requires { IsRoad region.old links.now (blocks_of (length bytes.now)) first }
-    ensures region { region.new ≡ written region.old links.now (blocks_of (length bytes.now)) first bytes.now }
+    ensures region { region.new ≡ written region.old links.now (blocks_of (length bytes.now)) first
+        bytes.now }
     ensures behind { result ≡ beyond links.now (blocks_of (length bytes.now)) first }
 {
     let mut block = first;

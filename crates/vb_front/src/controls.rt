@@ -20,7 +20,8 @@ mod tests;
 /// Appends an entry of a failover table.
 fn put_entry(uuid: u64, seqno: u64, value: &mut Out)
     requires { 16 ≤ value.old.spare }
-    ensures bytes { value.new.bytes ≡ value.old.bytes ++ (to_be_bytes w64 uuid ++ to_be_bytes w64 seqno) }
+    ensures bytes { value.new.bytes ≡ value.old.bytes
+        ++ (to_be_bytes w64 uuid ++ to_be_bytes w64 seqno) }
     ensures spare { value.new.spare + 16 ≡ value.old.spare }
 {
     value.push(&uuid.to_be_bytes());
@@ -32,7 +33,8 @@ fn put_table(table: &Failovers, value: &mut Out)
     requires { 400 ≤ value.old.spare }
     ensures bytes { value.new.bytes ≡ value.old.bytes ++ failover_bytes table.now }
     ensures short { length value.new.bytes ≤ length value.old.bytes + 400 }
-    ensures room { value.new.spare + length value.new.bytes ≡ value.old.spare + length value.old.bytes }
+    ensures room { value.new.spare + length value.new.bytes ≡ value.old.spare
+        + length value.old.bytes }
 {
     for index in 0..table.count() {
         match table.entry(index) {
@@ -59,7 +61,8 @@ fn observe(queue: &Queue, vb: u16, uuid: u64, value: &mut Out) -> Step
     ensures step { result ≡ steps.Done (answer_observe (queue_world queue.now vb) uuid).reply }
     ensures value { value.new.bytes ≡ (answer_observe (queue_world queue.now vb) uuid).value }
     ensures short { length value.new.bytes ≤ 27 }
-    ensures room { value.new.spare + length value.new.bytes ≡ value.old.spare + length value.old.bytes }
+    ensures room { value.new.spare + length value.new.bytes ≡ value.old.spare
+        + length value.old.bytes }
 {
     let newest = newest(queue.table());
     if uuid != newest {
@@ -81,7 +84,8 @@ pub fn control(queue: &mut Queue, call: &Call, vb: u16, value: &mut Out) -> Step
     ensures step { result ≡ (control_step queue.old vb (call_data call.now)).step }
     ensures value { value.new.bytes ≡ (control_step queue.old vb (call_data call.now)).value }
     ensures short { length value.new.bytes ≤ max_value }
-    ensures room { value.new.spare + length value.new.bytes ≡ value.old.spare + length value.old.bytes }
+    ensures room { value.new.spare + length value.new.bytes ≡ value.old.spare
+        + length value.old.bytes }
     ensures queue { queue.new ≡ queue.old }
     ensures legal { ControlIsLegal queue.old vb (call_data call.now)
         (control_step queue.old vb (call_data call.now)) }

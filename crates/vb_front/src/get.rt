@@ -42,9 +42,12 @@ pub(crate) fn refuse(part: &mut StripePart, prior: Option<Ticket>, cause: Cause)
 /// A Get of what isn't in memory.
 fn read_away(part: &mut StripePart, key: &[u8], prior: Option<Ticket>) -> Step
     requires { IsKey key.now }
-    ensures step { result ≡ (read_waits part.old prior key.now (waited part.old.table part.old.book key.now prior)).step }
-    ensures part { part.new ≡ (read_waits part.old prior key.now (waited part.old.table part.old.book key.now prior)).part }
-    ensures value { [] ≡ (read_waits part.old prior key.now (waited part.old.table part.old.book key.now prior)).value }
+    ensures step { result ≡ (read_waits part.old prior key.now
+        (waited part.old.table part.old.book key.now prior)).step }
+    ensures part { part.new ≡ (read_waits part.old prior key.now
+        (waited part.old.table part.old.book key.now prior)).part }
+    ensures value { [] ≡ (read_waits part.old prior key.now
+        (waited part.old.table part.old.book key.now prior)).value }
 {
     match wait::prior_means(&part.table, &part.book, key, prior) {
         Waited::Waits(ticket) => Step::Fetch(ticket),
@@ -67,15 +70,20 @@ fn read_here(
     value: &mut Out,
 ) -> Step
     requires there { Resident meta ≡ found (node_at part.old.table.slots key.now) }
-    requires room { length (text_of (resident_value (node_at part.old.table.slots key.now))) ≤ value.old.spare }
-    requires short { length (text_of (resident_value (node_at part.old.table.slots key.now))) ≤ max_value }
+    requires room { length (text_of (resident_value (node_at part.old.table.slots key.now)))
+        ≤ value.old.spare }
+    requires short { length (text_of (resident_value (node_at part.old.table.slots key.now)))
+        ≤ max_value }
     requires empty { value.old.bytes ≡ [] }
-    ensures step { result ≡ (read_memory part.old prior key.now now (memory_of part.old.table key.now)).step }
-    ensures part { part.new ≡ (read_memory part.old prior key.now now (memory_of part.old.table key.now)).part }
+    ensures step { result ≡ (read_memory part.old prior key.now now
+        (memory_of part.old.table key.now)).step }
+    ensures part { part.new ≡ (read_memory part.old prior key.now now
+        (memory_of part.old.table key.now)).part }
     ensures value { value.new.bytes
         ≡ (read_memory part.old prior key.now now (memory_of part.old.table key.now)).value }
     ensures short { length value.new.bytes ≤ max_value }
-    ensures room { value.new.spare + length value.new.bytes ≡ value.old.spare + length value.old.bytes }
+    ensures room { value.new.spare + length value.new.bytes ≡ value.old.spare
+        + length value.old.bytes }
 {
     let is_live = rules::is_live(meta.deleted, meta.expiry, now);
     if is_live {
@@ -106,12 +114,15 @@ fn read_key(
     requires key { IsKey key.now }
     requires room { max_value ≤ value.old.spare }
     requires empty { value.old.bytes ≡ [] }
-    ensures step { result ≡ (read_memory part.old prior key.now now (memory_of part.old.table key.now)).step }
-    ensures part { part.new ≡ (read_memory part.old prior key.now now (memory_of part.old.table key.now)).part }
+    ensures step { result ≡ (read_memory part.old prior key.now now
+        (memory_of part.old.table key.now)).step }
+    ensures part { part.new ≡ (read_memory part.old prior key.now now
+        (memory_of part.old.table key.now)).part }
     ensures value { value.new.bytes
         ≡ (read_memory part.old prior key.now now (memory_of part.old.table key.now)).value }
     ensures short { length value.new.bytes ≤ max_value }
-    ensures room { value.new.spare + length value.new.bytes ≡ value.old.spare + length value.old.bytes }
+    ensures room { value.new.spare + length value.new.bytes ≡ value.old.spare
+        + length value.old.bytes }
 {
     match part.table.find(key) {
         Found::Resident(meta) => read_here(part, key, meta, now, prior, value),
@@ -138,7 +149,8 @@ fn read_served(
     ensures part { part.new ≡ (read_step part.old prior key.now now).part }
     ensures value { value.new.bytes ≡ (read_step part.old prior key.now now).value }
     ensures short { length value.new.bytes ≤ max_value }
-    ensures room { value.new.spare + length value.new.bytes ≡ value.old.spare + length value.old.bytes }
+    ensures room { value.new.spare + length value.new.bytes ≡ value.old.spare
+        + length value.old.bytes }
 {
     if !part.table.is_opened() {
         return refuse(part, prior, Cause::Warming);
@@ -161,13 +173,16 @@ pub fn read(
 ) -> Step
     requires get { call_data call.now ≡ Get (key_in (call_data call.now)) }
     requires key { IsKey (key_in (call_data call.now)) }
-    requires home { stripe_of (key_in (call_data call.now)) part.old.table.stripes ≡ part.old.table.index }
+    requires home { stripe_of (key_in (call_data call.now)) part.old.table.stripes
+        ≡ part.old.table.index }
     requires room { max_value ≤ value.old.spare + length value.old.bytes }
     ensures step { result ≡ (read_step part.old prior (key_in (call_data call.now)) now).step }
     ensures part { part.new ≡ (read_step part.old prior (key_in (call_data call.now)) now).part }
-    ensures value { value.new.bytes ≡ (read_step part.old prior (key_in (call_data call.now)) now).value }
+    ensures value { value.new.bytes ≡ (read_step part.old prior (key_in (call_data call.now))
+        now).value }
     ensures short { length value.new.bytes ≤ max_value }
-    ensures room { value.new.spare + length value.new.bytes ≡ value.old.spare + length value.old.bytes }
+    ensures room { value.new.spare + length value.new.bytes ≡ value.old.spare
+        + length value.old.bytes }
     ensures keeps { KeepsStripe part.old part.new }
     ensures exact { ReadIsExact part.old (key_in (call_data call.now)) prior
         (read_step part.old prior (key_in (call_data call.now)) now) }

@@ -35,7 +35,8 @@ fn get(part: &mut StripePart, prior: Option<Ticket>, value: &mut Out) -> Step
     requires room { 1048576 ≤ value.old.spare + length value.old.bytes }
     ensures only { part.new.table.stripes ≡ 1 }
     ensures first { part.new.table.index ≡ 0 }
-    ensures room { value.new.spare + length value.new.bytes ≡ value.old.spare + length value.old.bytes }
+    ensures room { value.new.spare + length value.new.bytes ≡ value.old.spare
+        + length value.old.bytes }
 {
     read(part, &Call::Get { key: b"k" }, 0, prior, value)
 }

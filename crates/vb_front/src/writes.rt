@@ -114,7 +114,8 @@ fn write_over(
 ) -> Step
     requires keyed { written_key (call_data call.now) ≡ Some (key_in (call_data call.now)) }
     requires within { IsWithin (call_data call.now) }
-    requires home { stripe_of (key_in (call_data call.now)) part.old.table.stripes ≡ part.old.table.index }
+    requires home { stripe_of (key_in (call_data call.now)) part.old.table.stripes
+        ≡ part.old.table.index }
     requires moment { IsMoment now }
     requires there { needs part.old.table.eviction (call_data call.now) ≡ true →
         HasText seen (node_at part.old.table.slots (key_in (call_data call.now))) }
@@ -125,7 +126,8 @@ fn write_over(
     ensures value { value.new.bytes ≡ (write_over part.old queue.old prior (call_data call.now) now
         (shown_doc (text_at part.old.table (key_in (call_data call.now))) seen)).value }
     ensures short { length value.new.bytes ≤ max_value }
-    ensures room { value.new.spare + length value.new.bytes ≡ value.old.spare + length value.old.bytes }
+    ensures room { value.new.spare + length value.new.bytes ≡ value.old.spare
+        + length value.old.bytes }
 {
     let live = live(seen, now);
     match *call {
@@ -200,7 +202,8 @@ fn write_away(
     requires keyed { written_key (call_data call.now) ≡ Some (key_in (call_data call.now)) }
     requires key { key.now ≡ key_in (call_data call.now) }
     requires within { IsWithin (call_data call.now) }
-    requires home { stripe_of (key_in (call_data call.now)) part.old.table.stripes ≡ part.old.table.index }
+    requires home { stripe_of (key_in (call_data call.now)) part.old.table.stripes
+        ≡ part.old.table.index }
     requires moment { IsMoment now }
     requires room { max_value ≤ value.old.spare }
     requires empty { value.old.bytes ≡ [] }
@@ -209,7 +212,8 @@ fn write_away(
     ensures value { value.new.bytes ≡ (write_waits part.old queue.old prior (call_data call.now) key.now now
         (waited part.old.table part.old.book key.now prior)).value }
     ensures short { length value.new.bytes ≤ max_value }
-    ensures room { value.new.spare + length value.new.bytes ≡ value.old.spare + length value.old.bytes }
+    ensures room { value.new.spare + length value.new.bytes ≡ value.old.spare
+        + length value.old.bytes }
 {
     match wait::prior_means(&part.table, &part.book, key, prior) {
         Waited::Waits(ticket) => Step::Fetch(ticket),
@@ -240,7 +244,8 @@ fn write_key(
 ) -> Step
     requires keyed { written_key (call_data call.now) ≡ Some (key_in (call_data call.now)) }
     requires within { IsWithin (call_data call.now) }
-    requires home { stripe_of (key_in (call_data call.now)) part.old.table.stripes ≡ part.old.table.index }
+    requires home { stripe_of (key_in (call_data call.now)) part.old.table.stripes
+        ≡ part.old.table.index }
     requires moment { IsMoment now }
     requires room { max_value ≤ value.old.spare }
     requires empty { value.old.bytes ≡ [] }
@@ -250,7 +255,8 @@ fn write_key(
     ensures value { value.new.bytes ≡ (write_found part.old queue.old prior (call_data call.now)
         (key_in (call_data call.now)) now (found (node_at part.old.table.slots (key_in (call_data call.now))))).value }
     ensures short { length value.new.bytes ≤ max_value }
-    ensures room { value.new.spare + length value.new.bytes ≡ value.old.spare + length value.old.bytes }
+    ensures room { value.new.spare + length value.new.bytes ≡ value.old.spare
+        + length value.old.bytes }
 {
     let key = key_of(call);
     let found = part.table.find(key);
@@ -274,7 +280,8 @@ pub fn write(
 ) -> Step
     requires keyed { written_key (call_data call.now) ≡ Some (key_in (call_data call.now)) }
     requires within { IsWithin (call_data call.now) }
-    requires home { stripe_of (key_in (call_data call.now)) part.old.table.stripes ≡ part.old.table.index }
+    requires home { stripe_of (key_in (call_data call.now)) part.old.table.stripes
+        ≡ part.old.table.index }
     requires moment { IsMoment now }
     requires room { max_value ≤ value.old.spare + length value.old.bytes }
     ensures step { result ≡ (write_step part.old queue.old prior (call_data call.now) (key_in (call_data call.now))
@@ -284,7 +291,8 @@ pub fn write(
     ensures left { Leaves part.old queue.old (write_step part.old queue.old prior (call_data call.now)
         (key_in (call_data call.now)) now) part.new queue.new }
     ensures short { length value.new.bytes ≤ max_value }
-    ensures room { value.new.spare + length value.new.bytes ≡ value.old.spare + length value.old.bytes }
+    ensures room { value.new.spare + length value.new.bytes ≡ value.old.spare
+        + length value.old.bytes }
     ensures keeps { KeepsStripe part.old part.new }
     ensures legal { WriteIsLegal part.old queue.old (call_data call.now) (key_in (call_data call.now)) now prior
         (write_step part.old queue.old prior (call_data call.now) (key_in (call_data call.now)) now) part.new queue.new }

@@ -109,7 +109,8 @@ pub struct EventLog {
 
 // Puts bytes behind those that are kept.
 fn keep(bytes: &mut Vec<u8>, piece: &[u8]) -> Result<Span, AllocError>
-    ensures kept { IfOk result (λ span. (bytes.new.items ≡ bytes.old.items ++ piece.now) × (span ≡ record { from = length bytes.old.items; len = length piece.now })) }
+    ensures kept { IfOk result (λ span. (bytes.new.items ≡ bytes.old.items ++ piece.now)
+        × (span ≡ record { from = length bytes.old.items; len = length piece.now })) }
     ensures err { OnErr result (bytes.new.items ≡ bytes.old.items) }
     ensures room { vec_len bytes.old + length piece.now ≤ vec_capacity bytes.old → IsOk result }
     ensures growth { vec_len bytes.new ≤ vec_len bytes.old + length piece.now }
@@ -129,7 +130,8 @@ fn keep_two(bytes: &mut Vec<u8>, key: &[u8], value: &[u8]) -> Result<(Span, Span
         × (spans.0 ≡ record { from = length bytes.old.items; len = length key.now })
         × (spans.1 ≡ record { from = length bytes.old.items + length key.now; len = length value.now })) }
     ensures err { OnErr result (Extends bytes.old.items bytes.new.items) }
-    ensures room { vec_len bytes.old + (length key.now + length value.now) ≤ vec_capacity bytes.old → IsOk result }
+    ensures room { vec_len bytes.old + (length key.now + length value.now) ≤ vec_capacity bytes.old
+        → IsOk result }
     ensures growth { vec_len bytes.new ≤ vec_len bytes.old + (length key.now + length value.now) }
     ensures capacity { vec_capacity bytes.old ≤ vec_capacity bytes.new }
 {
@@ -140,9 +142,11 @@ fn keep_two(bytes: &mut Vec<u8>, key: &[u8], value: &[u8]) -> Result<(Span, Span
 
 // Puts the bytes of a call behind those that are kept.
 fn keep_call(bytes: &mut Vec<u8>, call: &Call) -> Result<KeptCall, AllocError>
-    ensures kept { IfOk result (λ kept. KeepsCall bytes.old.items bytes.new.items kept (call_data call.now)) }
+    ensures kept { IfOk result (λ kept. KeepsCall bytes.old.items bytes.new.items kept
+        (call_data call.now)) }
     ensures err { OnErr result (Extends bytes.old.items bytes.new.items) }
-    ensures room { vec_len bytes.old + bytes_of_call (call_data call.now) ≤ vec_capacity bytes.old → IsOk result }
+    ensures room { vec_len bytes.old + bytes_of_call (call_data call.now) ≤ vec_capacity bytes.old
+        → IsOk result }
     ensures growth { vec_len bytes.new ≤ vec_len bytes.old + bytes_of_call (call_data call.now) }
     ensures capacity { vec_capacity bytes.old ≤ vec_capacity bytes.new }
 {
@@ -224,11 +228,14 @@ fn keep_called(
     value: &[u8],
 ) -> Result<(KeptCall, Span), AllocError>
     ensures extends { Extends bytes.old.items bytes.new.items }
-    ensures inside { IfOk result (λ kept. IsCallInside (length bytes.new.items) kept.0 × IsInside (length bytes.new.items) kept.1) }
+    ensures inside { IfOk result (λ kept. IsCallInside (length bytes.new.items) kept.0
+        × IsInside (length bytes.new.items) kept.1) }
     ensures call { IfOk result (λ kept. call_in bytes.new.items kept.0 ≡ call_data call.now) }
     ensures value { IfOk result (λ kept. spanned bytes.new.items kept.1 ≡ value.now) }
-    ensures room { vec_len bytes.old + (bytes_of_call (call_data call.now) + length value.now) ≤ vec_capacity bytes.old → IsOk result }
-    ensures growth { vec_len bytes.new ≤ vec_len bytes.old + (bytes_of_call (call_data call.now) + length value.now) }
+    ensures room { vec_len bytes.old + (bytes_of_call (call_data call.now) + length value.now)
+        ≤ vec_capacity bytes.old → IsOk result }
+    ensures growth { vec_len bytes.new ≤ vec_len bytes.old
+        + (bytes_of_call (call_data call.now) + length value.now) }
     ensures capacity { vec_capacity bytes.old ≤ vec_capacity bytes.new }
 {
     let call = keep_call(bytes, call)?;
@@ -241,7 +248,8 @@ fn keep_event(bytes: &mut Vec<u8>, event: &Event) -> Result<KeptEvent, AllocErro
     ensures extends { Extends bytes.old.items bytes.new.items }
     ensures inside { IfOk result (λ kept. IsEventInside (length bytes.new.items) kept) }
     ensures same { IfOk result (λ kept. event_in bytes.new.items kept ≡ event_data event.now) }
-    ensures room { vec_len bytes.old + bytes_of (event_data event.now) ≤ vec_capacity bytes.old → IsOk result }
+    ensures room { vec_len bytes.old + bytes_of (event_data event.now) ≤ vec_capacity bytes.old
+        → IsOk result }
     ensures growth { vec_len bytes.new ≤ vec_len bytes.old + bytes_of (event_data event.now) }
     ensures capacity { vec_capacity bytes.old ≤ vec_capacity bytes.new }
 {
@@ -425,9 +433,11 @@ fn lend_kept(bytes: &[u8], event: KeptEvent) -> Event<'_>
 pub fn note(log: &mut EventLog, vb: u16, event: &Event) -> Result<(), NoMemory>
     requires whole { IsWhole log.old }
     ensures whole { IsWhole log.new }
-    ensures ok { OnOk result (pairs_of log.new ≡ pairs_of log.old ++ (vb, event_data event.now) ∷ []) }
+    ensures ok { OnOk result (pairs_of log.new ≡ pairs_of log.old ++ (vb, event_data event.now)
+        ∷ []) }
     ensures err { OnErr result (pairs_of log.new ≡ pairs_of log.old) }
-    ensures room { 1 ≤ event_room log.old → bytes_of (event_data event.now) ≤ byte_room log.old → IsOk result }
+    ensures room { 1 ≤ event_room log.old → bytes_of (event_data event.now) ≤ byte_room log.old
+        → IsOk result }
     ensures events { event_room log.old ≤ event_room log.new + 1 }
     ensures bytes { byte_room log.old ≤ byte_room log.new + bytes_of (event_data event.now) }
 {

@@ -61,10 +61,14 @@ pub fn take_at<P: Drop>(
     slot: usize,
     caller: u64,
 ) -> Option<P>
-    requires { (bucket : Bucket P) → slice_get buckets.old.items index ≡ Some bucket → slot < length bucket.places.items }
-    ensures taken { result ≡ home_of (place_at (slice_get (map bucket_data buckets.old.items) index) slot) }
-    ensures out { OnSome result (map bucket_data buckets.new.items ≡ changed_at (put_place slot (OutWith caller)) (map bucket_data buckets.old.items) index) }
-    ensures same { IfNone result (map bucket_data buckets.new.items ≡ map bucket_data buckets.old.items) }
+    requires { (bucket : Bucket P) → slice_get buckets.old.items index ≡ Some bucket → slot
+        < length bucket.places.items }
+    ensures taken { result ≡ home_of (place_at (slice_get (map bucket_data buckets.old.items) index)
+        slot) }
+    ensures out { OnSome result (map bucket_data buckets.new.items
+        ≡ changed_at (put_place slot (OutWith caller)) (map bucket_data buckets.old.items) index) }
+    ensures same { IfNone result (map bucket_data buckets.new.items
+        ≡ map bucket_data buckets.old.items) }
 {
     let bucket = buckets.get_mut(index)?;
     take_place(&mut bucket.places, slot, caller)
@@ -73,8 +77,10 @@ pub fn take_at<P: Drop>(
 // Puts what a place of a vBucket is to hold.
 pub fn put_at<P: Drop>(buckets: &mut Vec<Bucket<P>>, index: usize, slot: usize, place: Place<P>)
     requires index { index < length buckets.old.items }
-    requires slot { (bucket : Bucket P) → slice_get buckets.old.items index ≡ Some bucket → slot < length bucket.places.items }
-    ensures { map bucket_data buckets.new.items ≡ changed_at (put_place slot place) (map bucket_data buckets.old.items) index }
+    requires slot { (bucket : Bucket P) → slice_get buckets.old.items index ≡ Some bucket → slot
+        < length bucket.places.items }
+    ensures { map bucket_data buckets.new.items
+        ≡ changed_at (put_place slot place) (map bucket_data buckets.old.items) index }
 {
     let bucket = &mut buckets[index];
     bucket.places[slot] = place;

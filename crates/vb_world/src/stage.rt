@@ -76,6 +76,7 @@ impl<'a, P: Stands + Drop> Stage for WorldStage<'a, P> {
 
     // In one thread nobody else noted anything.
     fn look(&mut self) {
+        // what is so of this world is known by this call
         let _count = self.world.count();
     }
 

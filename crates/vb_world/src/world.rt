@@ -81,7 +81,10 @@ impl<P: Stands + Drop> World<P> {
     /// for which there was no room before, and it has room for no fewer than then. Linear in what was noted where that
     /// has to move.
     pub fn reserve(&mut self, events: usize, bytes: usize) -> Result<(), NoMemory>
-        ensures same { self.new ≡ record self.old { event_room = self.new.event_room; byte_room = self.new.byte_room } }
+        ensures same { self.new ≡ record self.old {
+          event_room = self.new.event_room;
+          byte_room = self.new.byte_room;
+        } }
         ensures ok { OnOk result ((events ≤ self.new.event_room) × (bytes ≤ self.new.byte_room)) }
         ensures err { OnErr result ((self.old.event_room < events) ⊎ (self.old.byte_room < bytes)) }
         ensures events { self.old.event_room ≤ self.new.event_room }
@@ -130,11 +133,16 @@ impl<P: Stands + Drop> World<P> {
     // Notes an event of a vBucket while no part that it touches is at home.
     pub(crate) fn note(&mut self, vb: u16, event: &Event)
         requires vb { vb < length self.old.buckets }
-        requires away { (p : PartName) → touches (front_in self.old vb) (event_data event.now) p ≡ true → part_in self.old vb p ≡ None }
+        requires away { (p : PartName) → touches (front_in self.old vb) (event_data event.now) p
+            ≡ true → part_in self.old vb p ≡ None }
         requires may { May (front_in self.old vb) (event_data event.now) }
         requires event { 1 ≤ self.old.event_room }
         requires bytes { bytes_of (event_data event.now) ≤ self.old.byte_room }
-        ensures noted { self.new ≡ record self.old { history = self.old.history ++ (vb, event_data event.now) ∷ []; event_room = self.new.event_room; byte_room = self.new.byte_room } }
+        ensures noted { self.new ≡ record self.old {
+          history = self.old.history ++ (vb, event_data event.now) ∷ [];
+          event_room = self.new.event_room;
+          byte_room = self.new.byte_room;
+        } }
         ensures events { self.old.event_room ≤ self.new.event_room + 1 }
         ensures bytes { self.old.byte_room ≤ self.new.byte_room + bytes_of (event_data event.now) }
         ensures was_sound { Sound P.stands self.old }

@@ -53,7 +53,8 @@ fn two_vbuckets(alloc: Global) -> Result<World<Token>, NoMemory>
     ensures buckets { IfOk result (λ w. length w.buckets ≡ 2) }
     ensures history { IfOk result (λ w. w.history ≡ []) }
     ensures room { IfOk result (λ w. (1 ≤ w.event_room) × (64 ≤ w.byte_room)) }
-    ensures home { IfOk result (λ w. (id caller : ℕ) (part : PartName) → has_out w id caller part ≡ false) }
+    ensures home { IfOk result (λ w. (id caller : ℕ) (part : PartName) → has_out w id caller part
+        ≡ false) }
 {
     let mut world = World::new(alloc, &CONFIG)?;
     world.add(tokens(alloc, 0)?)?;

@@ -23,7 +23,8 @@ impl Plain {
     ) -> Result<Reply, NoMemory>
         requires moment { IsMoment now }
         requires spare { max_value ≤ value.old.spare }
-        ensures { Serves (answer_count down self.old key.now delta initial expiration cas now (live self.old key.now now)) self.old self.new value.old value.new result }
+        ensures { Serves (answer_count down self.old key.now delta initial expiration cas now
+            (live self.old key.now now)) self.old self.new value.old value.new result }
     {
         let Some(found) = self.live(key, now) else {
             if let Some(refused) = rules::new_count_refusal(cas, expiration) {
@@ -56,7 +57,8 @@ impl Plain {
     ) -> Result<Reply, NoMemory>
         requires moment { IsMoment now }
         requires spare { max_value ≤ value.old.spare }
-        ensures { Serves (counts self.old key.now number flags expiry now) self.old self.new value.old value.new result }
+        ensures { Serves (counts self.old key.now number flags expiry now) self.old self.new
+            value.old value.new result }
     {
         if let Some(refused) = self.number_refusal() {
             return Ok(Reply::refusal(refused));

@@ -14,14 +14,16 @@ pub(super) type Documents = HashMap<Vec<u8>, Document>;
 
 /// The document of a key, live or not.
 pub(super) fn document_of<'a>(documents: &'a Documents, key: &[u8]) -> Option<&'a Document>
-    ensures { option_map document_data (option_copied result) ≡ finmap.get (plain_docs documents.now.entries) key.now }
+    ensures { option_map document_data (option_copied result)
+        ≡ finmap.get (plain_docs documents.now.entries) key.now }
 {
     documents.get(key)
 }
 
 /// A document, if it is live.
 pub(super) fn live_of(document: Option<&Document>, now: u64) -> Option<&Document>
-    ensures { option_map document_data (option_copied result) ≡ live_of (option_map document_data (option_copied document.entry)) now }
+    ensures { option_map document_data (option_copied result)
+        ≡ live_of (option_map document_data (option_copied document.entry)) now }
 {
     let document = document?;
     if rules::is_live(document.deleted, document.expiry, now) {
@@ -45,7 +47,8 @@ pub(super) fn put_document(
     key: &[u8],
     document: Document,
 ) -> Result<(), NoMemory>
-    ensures ok { OnOk result (plain_docs documents.new.entries ≡ finmap.insert (plain_docs documents.old.entries) key.now (document_data document)) }
+    ensures ok { OnOk result (plain_docs documents.new.entries
+        ≡ finmap.insert (plain_docs documents.old.entries) key.now (document_data document)) }
     ensures err { OnErr result (documents.new.entries ≡ documents.old.entries) }
 {
     if let Some(place) = documents.get_mut(key) {

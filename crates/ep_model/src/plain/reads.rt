@@ -16,8 +16,10 @@ impl Plain {
     pub(super) fn get(&self, key: &[u8], now: u64, value: &mut Out) -> Reply
         requires { max_value ≤ value.old.spare }
         ensures reply { result ≡ (answer_get (live self.now key.now now)).reply }
-        ensures value { value.new.bytes ≡ value.old.bytes ++ (answer_get (live self.now key.now now)).value }
-        ensures room { value.new.spare + length value.new.bytes ≡ value.old.spare + length value.old.bytes }
+        ensures value { value.new.bytes ≡ value.old.bytes
+            ++ (answer_get (live self.now key.now now)).value }
+        ensures room { value.new.spare + length value.new.bytes ≡ value.old.spare
+            + length value.old.bytes }
     {
         match self.live(key, now) {
             None => Reply::refusal(status::KEY_NOT_FOUND),
@@ -35,7 +37,8 @@ impl Plain {
     ) -> Result<Reply, NoMemory>
         requires moment { IsMoment now }
         requires spare { max_value ≤ value.old.spare }
-        ensures { Serves (answer_touch fetch self.old key.now expiration now (live self.old key.now now)) self.old self.new value.old value.new result }
+        ensures { Serves (answer_touch fetch self.old key.now expiration now
+            (live self.old key.now now)) self.old self.new value.old value.new result }
     {
         let Some(found) = self.live(key, now) else {
             return Ok(Reply::refusal(status::KEY_NOT_FOUND));
@@ -72,9 +75,12 @@ fn flags_shown(document: &Document, fetch: bool) -> u32
 /// Replies with a document as it stands, and appends its value where that is fetched.
 fn show(document: &Document, fetch: bool, value: &mut Out) -> Reply
     requires { max_value ≤ value.old.spare }
-    ensures reply { result ≡ (shows document.now.cas (shown_flags fetch (document_data document.now)) []).reply }
-    ensures value { value.new.bytes ≡ value.old.bytes ++ shown_value fetch (document_data document.now) }
-    ensures room { value.new.spare + length value.new.bytes ≡ value.old.spare + length value.old.bytes }
+    ensures reply { result ≡ (shows document.now.cas
+        (shown_flags fetch (document_data document.now)) []).reply }
+    ensures value { value.new.bytes ≡ value.old.bytes
+        ++ shown_value fetch (document_data document.now) }
+    ensures room { value.new.spare + length value.new.bytes ≡ value.old.spare
+        + length value.old.bytes }
 {
     if fetch {
         value.push(&document.value);

@@ -18,7 +18,8 @@ impl Plain {
         requires { max_value ≤ value.old.spare }
         ensures reply { result ≡ (answer_observe self.now uuid).reply }
         ensures value { value.new.bytes ≡ value.old.bytes ++ (answer_observe self.now uuid).value }
-        ensures room { value.new.spare + length value.new.bytes ≡ value.old.spare + length value.old.bytes }
+        ensures room { value.new.spare + length value.new.bytes ≡ value.old.spare
+            + length value.old.bytes }
     {
         let id = self.id;
         let high = self.high;
@@ -54,8 +55,10 @@ impl Plain {
     pub(super) fn get_state(&self, value: &mut Out) -> Reply
         requires { max_value ≤ value.old.spare }
         ensures reply { result ≡ (shows 0 0 []).reply }
-        ensures value { value.new.bytes ≡ value.old.bytes ++ to_be_bytes w32 (state_code self.now.state) }
-        ensures room { value.new.spare + length value.new.bytes ≡ value.old.spare + length value.old.bytes }
+        ensures value { value.new.bytes ≡ value.old.bytes
+            ++ to_be_bytes w32 (state_code self.now.state) }
+        ensures room { value.new.spare + length value.new.bytes ≡ value.old.spare
+            + length value.old.bytes }
     {
         value.push(&self.state.code().to_be_bytes());
         Reply::success()

@@ -24,7 +24,8 @@ impl Plain {
     ) -> Result<Reply, NoMemory>
         requires moment { IsMoment now }
         requires within { IsValue value.now }
-        ensures { Does (answer_store kind self.old key.now value.now flags expiration cas now) self.old self.new result }
+        ensures { Does (answer_store kind self.old key.now value.now flags expiration cas now)
+            self.old self.new result }
     {
         let too_large = rules::size_refusal(self.fit(), key.len(), value.len());
         let refused = too_large
@@ -69,7 +70,8 @@ impl Plain {
     ) -> Result<Reply, NoMemory>
         requires moment { IsMoment now }
         requires within { IsValue piece.now }
-        ensures { Does (answer_join front self.old key.now piece.now cas now (live self.old key.now now)) self.old self.new result }
+        ensures { Does (answer_join front self.old key.now piece.now cas now
+            (live self.old key.now now)) self.old self.new result }
     {
         let Some(found) = self.live(key, now) else {
             return Ok(Reply::refusal(status::NOT_STORED));

@@ -54,7 +54,8 @@ fn put(queue: &mut Queue) {
 fn comes_to(queue: &mut Queue, call: &Call, value: &mut Out, step: Step, text: &[u8]) -> bool
     requires call { is_control (call_data call.now) ≡ true }
     requires room { max_value ≤ value.old.spare + length value.old.bytes }
-    ensures room { value.new.spare + length value.new.bytes ≡ value.old.spare + length value.old.bytes }
+    ensures room { value.new.spare + length value.new.bytes ≡ value.old.spare
+        + length value.old.bytes }
 {
     control(queue, call, 0x0102, value) == step && *value.bytes() == *text
 }

@@ -31,7 +31,8 @@ fn set(part: &mut StripePart, queue: &mut Queue, key: &[u8], len: usize, value: 
     requires room { max_value ≤ value.old.spare + length value.old.bytes }
     ensures only { part.new.table.stripes ≡ 1 }
     ensures first { part.new.table.index ≡ 0 }
-    ensures room { value.new.spare + length value.new.bytes ≡ value.old.spare + length value.old.bytes }
+    ensures room { value.new.spare + length value.new.bytes ≡ value.old.spare
+        + length value.old.bytes }
 {
     let call = Call::Store {
         kind: StoreKind::Set,
@@ -103,7 +104,8 @@ fn count(part: &mut StripePart, queue: &mut Queue, prior: Option<Ticket>, value:
     requires room { max_value ≤ value.old.spare + length value.old.bytes }
     ensures only { part.new.table.stripes ≡ 1 }
     ensures first { part.new.table.index ≡ 0 }
-    ensures room { value.new.spare + length value.new.bytes ≡ value.old.spare + length value.old.bytes }
+    ensures room { value.new.spare + length value.new.bytes ≡ value.old.spare
+        + length value.old.bytes }
 {
     let call = Call::Count {
         down: false,

@@ -27,7 +27,8 @@ fn number_at(table: &Stripe, key: &[u8], value: &mut Out) -> Option<u64>
     requires empty { value.old.bytes ≡ [] }
     ensures number { result ≡ number_of (text_at table.now key.now) }
     ensures empty { value.new.bytes ≡ [] }
-    ensures room { value.new.spare + length value.new.bytes ≡ value.old.spare + length value.old.bytes }
+    ensures room { value.new.spare + length value.new.bytes ≡ value.old.spare
+        + length value.old.bytes }
 {
     table.value_to(key, value);
     let number = decimal::number_of(value.bytes());
@@ -59,7 +60,8 @@ fn put_number(
     ensures value { value.new.bytes ≡ (write_answer part.old queue.old prior
         (counts (shown_world part.old.table queue.old) key.now number flags expiry now)).value }
     ensures short { length value.new.bytes ≤ max_value }
-    ensures room { value.new.spare + length value.new.bytes ≡ value.old.spare + length value.old.bytes }
+    ensures room { value.new.spare + length value.new.bytes ≡ value.old.spare
+        + length value.old.bytes }
 {
     if let Some(status) = rules::number_refusal(queue.high()) {
         return answer(part, prior, Reply::refusal(status));
@@ -107,7 +109,8 @@ pub(crate) fn count(
         (shown_world part.old.table queue.old) key.now delta initial expiration cas now
         (shown_doc (text_at part.old.table key.now) live))).value }
     ensures short { length value.new.bytes ≤ max_value }
-    ensures room { value.new.spare + length value.new.bytes ≡ value.old.spare + length value.old.bytes }
+    ensures room { value.new.spare + length value.new.bytes ≡ value.old.spare
+        + length value.old.bytes }
 {
     let Some(live) = live else {
         if let Some(status) = rules::new_count_refusal(cas, expiration) {

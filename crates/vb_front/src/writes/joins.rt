@@ -23,7 +23,8 @@ fn joined_to(table: &Stripe, key: &[u8], front: bool, piece: &[u8], value: &mut 
     requires room { length (text_at table.now key.now) + length piece.now ≤ value.old.spare }
     requires empty { value.old.bytes ≡ [] }
     ensures bytes { value.new.bytes ≡ joined front (text_at table.now key.now) piece.now }
-    ensures room { value.new.spare + length value.new.bytes ≡ value.old.spare + length value.old.bytes }
+    ensures room { value.new.spare + length value.new.bytes ≡ value.old.spare
+        + length value.old.bytes }
 {
     if front {
         value.push(piece);
@@ -62,7 +63,8 @@ pub(crate) fn join(
         (shown_world part.old.table queue.old) key.now piece.now cas now
         (shown_doc (text_at part.old.table key.now) live))).value }
     ensures empty { value.new.bytes ≡ [] }
-    ensures room { value.new.spare + length value.new.bytes ≡ value.old.spare + length value.old.bytes }
+    ensures room { value.new.spare + length value.new.bytes ≡ value.old.spare
+        + length value.old.bytes }
 {
     let Some(live) = live else {
         return answer(part, prior, Reply::refusal(NOT_STORED));

@@ -44,7 +44,8 @@ fn make_room(table: &mut Stripe, queue: &mut Queue, key: &[u8], len: u32) -> boo
     ensures rest { table.new ≡ record table.old { slots = table.new.slots } }
     ensures ejects { EjectsOthers table.old.eviction table.old.mark key.now
         (blocks (length key.now) + blocks len) table.old.slots table.new.slots }
-    ensures fits { result ≡ true → Fits key.now (blocks (length key.now) + blocks len) table.new.slots }
+    ensures fits { result ≡ true → Fits key.now (blocks (length key.now) + blocks len)
+        table.new.slots }
     ensures expelled { Expelled queue.old queue.new }
     ensures held { result ≡ true → CanHold queue.new key.now len }
     ensures high { queue.new.high ≡ queue.old.high }
@@ -73,7 +74,8 @@ fn place(
     requires text { IsValue text.now }
     requires len { meta.len ≡ length text.now }
     requires tombstone { meta.deleted ≡ true → text.now ≡ [] }
-    requires fits { Fits key.now (blocks (length key.now) + blocks (length text.now)) part.old.table.slots }
+    requires fits { Fits key.now (blocks (length key.now) + blocks (length text.now))
+        part.old.table.slots }
     requires held { CanHold queue.old key.now (length text.now) }
     requires number { queue.old.high < 2 ^ 48 - 1 }
     requires rises { queue.old.maxcas < meta.cas }

@@ -46,7 +46,8 @@ fn show(
     ensures step { result ≡ steps.Done (shows live.cas (if fetch then live.flags else 0) []).reply }
     ensures part { part.new ≡ record part.old { book = release part.old.book prior } }
     ensures value { value.new.bytes ≡ if fetch then text_at part.old.table key.now else [] }
-    ensures room { value.new.spare + length value.new.bytes ≡ value.old.spare + length value.old.bytes }
+    ensures room { value.new.spare + length value.new.bytes ≡ value.old.spare
+        + length value.old.bytes }
 {
     let flags = flags_shown(live.flags, fetch);
     if fetch {
@@ -66,7 +67,8 @@ fn show(
 fn finish(placed: Option<Reply>, fetch: bool, value: &mut Out) -> Step
     ensures step { result ≡ step_of placed }
     ensures value { value.new.bytes ≡ value_if placed (if fetch then value.old.bytes else []) }
-    ensures room { value.new.spare + length value.new.bytes ≡ value.old.spare + length value.old.bytes }
+    ensures room { value.new.spare + length value.new.bytes ≡ value.old.spare
+        + length value.old.bytes }
 {
     if !fetch || placed.is_none() {
         value.cut(0);
@@ -100,7 +102,8 @@ pub(crate) fn touch(
         (shown_world part.old.table queue.old) key.now expiration now
         (shown_doc (text_at part.old.table key.now) live))).value }
     ensures short { length value.new.bytes ≤ max_value }
-    ensures room { value.new.spare + length value.new.bytes ≡ value.old.spare + length value.old.bytes }
+    ensures room { value.new.spare + length value.new.bytes ≡ value.old.spare
+        + length value.old.bytes }
 {
     let Some(live) = live else {
         return answer(part, prior, Reply::refusal(KEY_NOT_FOUND));
