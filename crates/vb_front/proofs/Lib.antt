@@ -20,3 +20,4 @@ pub mod EjectLemmas
 pub mod SeenLemmas
 pub mod RowEffectLemmas
 pub mod WriteLemmas
+pub mod RoomLemmas

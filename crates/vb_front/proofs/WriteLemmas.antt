@@ -76,7 +76,7 @@ next_both f None A B a b = (a, b)
 next_both f (Some event) A B a b = (a.0, (a.1, b))
 
 -- calls that write a key
-written_keyed : (call : CallData) (key : List ℕ) → written_key call ≡ Some key → key_of call ≡ Some key
+pub written_keyed : (call : CallData) (key : List ℕ) → written_key call ≡ Some key → key_of call ≡ Some key
 written_keyed (calls.Get k) key is = absurd (cc)
 written_keyed (calls.Store kind k value flags expiration cas) key is = is
 written_keyed (calls.Join front k value cas) key is = is
@@ -145,19 +145,19 @@ item_doc : (key : List ℕ) (doc : Doc) (n : ℕ) → doc.seqno ≡ n → doc_fr
 item_doc key doc n is = ap (λ m. record doc { seqno = m }) (sym is)
 
 module _ (f : FrontData) (stripe caller now : ℕ) (call : CallData) (key : List ℕ) (written : written_key call ≡ Some key) (keyed : IsKey key) (legal : IsLegal f) (here : stripe_of key f.config.stripes ≡ stripe) where
-  of_key : key_of call ≡ Some key
+  pub of_key : key_of call ≡ Some key
   of_key = written_keyed call key written
 
   of_some : has_key call ≡ true
   of_some = ap (λ (o : Option (List ℕ)). is_some o) of_key
 
   -- an active vBucket answers by the row
-  row_answer : (world_of f).state ≡ Active → row_of (world_of f) call now (live (world_of f) key now) ≡ answer (world_of f) call now
+  pub row_answer : (world_of f).state ≡ Active → row_of (world_of f) call now (live (world_of f) key now) ≡ answer (world_of f) call now
   row_answer active =
       row_is (world_of f) call now key written ∙ sym (ap (λ (v : VbState). unless (state_refusal v (has_key call)) (answer_row (world_of f) call now)) active)
 
   module _ (old : StripePart) (q : QueueData) (s : StripeStands f stripe old) (u : QueueStands f q) where
-    fit_is : (shown_world old.table q).fit ≡ (world_of f).fit
+    pub fit_is : (shown_world old.table q).fit ≡ (world_of f).fit
     fit_is =
         ap (λ n. min n q.blocks) s.table.blocks ∙ ap (λ n. min f.config.blocks n) u.blocks ∙ sym (frame_after (begun f) f.events).fit
 
@@ -171,7 +171,7 @@ module _ (f : FrontData) (stripe caller now : ℕ) (call : CallData) (key : List
         ∙ sym (row_numbered (world_of f) call now doc key written)
 
     -- what memory shows to a call that lacks nothing
-    seen_answer : (world_of f).opened ≡ true → (world_of f).state ≡ Active → (needs old.table.eviction call && is_away old.table.eviction (found (node_at old.table.slots key))) ≡ false
+    pub seen_answer : (world_of f).opened ≡ true → (world_of f).state ≡ Active → (needs old.table.eviction call && is_away old.table.eviction (found (node_at old.table.slots key))) ≡ false
         → (world_of f).told ≡ true → row_of (shown_world old.table q) call now (live_of (shown_doc (text_at old.table key) (seen_meta (found (node_at old.table.slots key)))) now) ≡ answer (world_of f) call now
     seen_answer opened active has told =
         let t = s.table.shown told in
@@ -183,7 +183,7 @@ module _ (f : FrontData) (stripe caller now : ℕ) (call : CallData) (key : List
         ∙ row_answer active
 
     -- and to one whose document the store doesn't have
-    absent_answer : (world_of f).state ≡ Active → OutcomeShows f key outcomes.Absent → row_of (shown_world old.table q) call now None ≡ answer (world_of f) call now
+    pub absent_answer : (world_of f).state ≡ Active → OutcomeShows f key outcomes.Absent → row_of (shown_world old.table q) call now None ≡ answer (world_of f) call now
     absent_answer active gone =
         shown_row None ∙ ap (λ (o : Option Doc). row_of (world_of f) call now o) (sym (absent_live now (get (world_of f).docs key) gone)) ∙ row_answer active
 
@@ -379,11 +379,14 @@ module _ (f : FrontData) (stripe caller now : ℕ) (call : CallData) (key : List
           let a : Answer = row_of (shown_world old.table q) call now (live_of doc now) in
           answer_next a a.effect new after refl (row_effect (shown_world old.table q) call now (live_of doc now) key written) shown left
 
+      pub own_answer : (status : ℕ) → own_refusal (shown_world old.table q).fit call ≡ Some status → answer (world_of f) call now ≡ refused status
+      own_answer status own = sym (row_answer active) ∙ row_is (world_of f) call now key written ∙ own_row (world_of f) call now status (ap (λ n. own_refusal n call) (sym fit_is) ∙ own)
+
       -- a refusal of its own
       own_next : (status : ℕ) (new : StripePart) (after : QueueData) → own_refusal (shown_world old.table q).fit call ≡ Some status → Leaves old q (write_done old prior (refused status)) new after
           → IsNext f (event_of caller call now prior (steps.Done (refused status).reply) []) (λ g. StripeStands g stripe new × QueueStands g after)
       own_next status new after own left =
-          let same : answer (world_of f) call now ≡ refused status = sym (row_answer active) ∙ row_is (world_of f) call now key written ∙ own_row (world_of f) call now status (ap (λ n. own_refusal n call) (sym fit_is) ∙ own) in
+          let same = own_answer status own in
           done_next prior (refused status) new after opened (λ untold. refl) (λ told. (
             sym (ap (λ (x : Answer). x.reply) same),
             sym (ap (λ (x : Answer). x.value) same),

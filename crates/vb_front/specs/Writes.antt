@@ -17,7 +17,9 @@ use Rattle.ep_model.specs.Limits.{max_value}
 use Rattle.ep_model.specs.Needs.{needs, own_refusal}
 use Rattle.ep_model.specs.Refusals.{state_refusal, size_refusal, store_refusal, wanted_refusal}
 use Rattle.ep_model.specs.Answer.{Answer, Effect, Nothing, Puts, Sets, unless, refused, cas_of, puts, put_success, stores, answer_join, answer_count, answer_touch, answer_row}
-use Rattle.ep_model.specs.Legal.{IsLegal}
+use Rattle.ep_model.specs.Quota.{is_short}
+use Rattle.ep_model.specs.Front.{world_of}
+use Rattle.ep_model.specs.Legal.{IsServing, IsLegal}
 use Rattle.hash_stripe.specs.declared.found.Found.{Found}
 use Rattle.hash_stripe.specs.declared.found.Found.TheVariants as founds
 use Rattle.hash_stripe.specs.Nodes.{NodeData, Slot, node_at, EjectsOthers, Restores}
@@ -224,3 +226,9 @@ abbrev pub WriteIsLegal : StripePart → QueueData → CallData → List ℕ →
 WriteIsLegal old q call key now prior w new after =
     (f : FrontData) (stripe caller : ℕ) → IsLegal f → StripeStands f stripe old → QueueStands f q → PriorsStand f caller call prior
     → IsNext f (event_of caller call now prior w.step w.value) (λ g. StripeStands g stripe new × QueueStands g after)
+
+-- Where documents are known, a call that is answered had room. So one is refused for want of room exactly where there is none.
+abbrev pub AnsweredHasRoom : StripePart → QueueData → CallData → List ℕ → ℕ → Option Ticket → Write → Type 0
+AnsweredHasRoom old q call key now prior w =
+    (f : FrontData) (stripe caller : ℕ) (reply : Reply) → IsLegal f → StripeStands f stripe old → QueueStands f q → PriorsStand f caller call prior
+    → (world_of f).told ≡ true → IsServing (world_of f) → w.step ≡ steps.Done reply → is_short f key call now ≡ false

@@ -20,7 +20,7 @@ ghost use Rattle.vb_front.specs.Priors.{key_in};
 ghost use Rattle.vb_front.specs.Writes.{seen_meta, shown_doc, text_at, is_away, HasText};
 ghost use Rattle.vb_front.specs.Writes.{write_over, write_waits, write_found, write_step};
 ghost use Rattle.vb_front.specs.Reads.{KeepsStripe};
-ghost use Rattle.vb_front.specs.Writes.{Comes, Leaves, WriteIsLegal};
+ghost use Rattle.vb_front.specs.Writes.{Comes, Leaves, WriteIsLegal, AnsweredHasRoom};
 
 use crate::get::{answer, refuse};
 use crate::part::StripePart;
@@ -296,6 +296,8 @@ pub fn write(
     ensures keeps { KeepsStripe part.old part.new }
     ensures legal { WriteIsLegal part.old queue.old (call_data call.now) (key_in (call_data call.now)) now prior
         (write_step part.old queue.old prior (call_data call.now) (key_in (call_data call.now)) now) part.new queue.new }
+    ensures fits { AnsweredHasRoom part.old queue.old (call_data call.now) (key_in (call_data call.now)) now prior
+        (write_step part.old queue.old prior (call_data call.now) (key_in (call_data call.now)) now) }
 {
     // what is so of every stripe is known here by this call
     let _free = part.table.free();
