@@ -25,7 +25,7 @@ use Rattle.ep_model.specs.Mutations.{put_by}
 use Rattle.ep_model.specs.Quota.{pinned, blocks_if, standing_blocks, old_blocks, need, exceeds, stripe_is_full, is_overfull, is_short}
 use Rattle.ep_model.specs.Front.{begun, world_of, marked}
 use Rattle.ep_model.specs.Legal.{IsServing, IsLegal}
-use Rattle.hold_stage.proofs.Views.{frame_after, or_left, or_right}
+use Rattle.hold_stage.proofs.ViewLemmas.{frame_after, or_left, or_right}
 use Rattle.hash_stripe.specs.Nodes.{NodeData, Slot, node_at, value_blocks, node_blocks, slot_blocks, slot_pinned, is_keyed, is_clean, is_full_eviction, others_blocks, others_pinned}
 use Rattle.hash_stripe.specs.Nodes as nodes
 use Rattle.hash_stripe.specs.Stripes.{IsStripe, found, found_value}
