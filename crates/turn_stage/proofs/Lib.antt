@@ -10,5 +10,6 @@ pub mod OpenLemmas
 pub mod CallLemmas
 pub mod RestLemmas
 pub mod SlottedLemmas
-pub mod ClosedLemmas
+pub mod UnopenedLemmas
 pub mod MadeLemmas
+pub mod AloneLemmas

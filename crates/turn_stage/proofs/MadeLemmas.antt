@@ -20,7 +20,7 @@ use Rattle.turn_stage.specs.Slots.{has}
 use Rattle.turn_stage.specs.Passes.{view_of, IsPassOf, Joined, AreJoined}
 use Rattle.turn_stage.specs.Plays.{without_number, with_number}
 use Rattle.turn_stage.specs.Parts.{first_view}
-use Rattle.turn_stage.specs.Made.{refusal, noted_by, only_if, key_at, made, Ran, AreMade, AreEnded, HasJoined}
+use Rattle.turn_stage.specs.Made.{refusal, noted_by, only_if, key_at, made, MadeCalls, AreMade, AreEnded, HasJoined}
 
 append_assoc : {A : Type 0} (xs ys zs : List A) → (xs ++ ys) ++ zs ≡ xs ++ (ys ++ zs)
 append_assoc [] ys zs = refl
@@ -70,12 +70,12 @@ ran_own v w x held desk key now r b same went caller is =
 
 module _ {P : Type 0} where
   -- nothing was made yet, and a call more, or none where its part was busy
-  pub ran_nothing : (turns : Turns P) (pass : TurnPass P) (first : ℕ) → IsPassOf turns pass → IsNone (has (view_of pass).held) → Ran turns pass pass (made (view_of pass).caller first 0)
+  pub ran_nothing : (turns : Turns P) (pass : TurnPass P) (first : ℕ) → IsPassOf turns pass → IsNone (has (view_of pass).held) → MadeCalls turns pass pass (made (view_of pass).caller first 0)
   ran_nothing turns pass first of none = record { of = of; none = none; numbers = refl; caller = refl; own = sym (append-nil (own_events (view_of pass).caller (view_of pass).front.events)) }
 
   pub ran_more : (turns : Turns P) (before now after : TurnPass P) (first n : ℕ) (key : List ℕ) (moment : ℕ) → key ≡ key_at first n → moment ≡ n
-      → Ran turns before now (made (view_of before).caller first n) → Ran turns now after (refusal (view_of now).caller key moment ∷ [])
-      → Ran turns before after (made (view_of before).caller first (n + 1))
+      → MadeCalls turns before now (made (view_of before).caller first n) → MadeCalls turns now after (refusal (view_of now).caller key moment ∷ [])
+      → MadeCalls turns before after (made (view_of before).caller first (n + 1))
   ran_more turns before now after first n key moment at is ran more = record {
     of = more.of;
     none = more.none;
@@ -88,7 +88,7 @@ module _ {P : Type 0} where
         (ap (λ (k : ℕ). refusal k key moment) ran.caller ∙ (ap (λ (l : List ℕ). refusal (view_of before).caller l moment) at ∙ ap (λ (t : ℕ). refusal (view_of before).caller (key_at first n) t) is)));
   }
 
-  pub ran_same : (turns : Turns P) (before now after : TurnPass P) (made : List EventData) → Ran turns before now made → Ran turns now after [] → Ran turns before after made
+  pub ran_same : (turns : Turns P) (before now after : TurnPass P) (made : List EventData) → MadeCalls turns before now made → MadeCalls turns now after [] → MadeCalls turns before after made
   ran_same turns before now after made ran more = record {
     of = more.of;
     none = more.none;
@@ -131,24 +131,24 @@ closed_made v n ns has joined = (has.0, ended_made v.front v.ended 1 ns joined h
 module _ {P : Type 0} where
   -- a loop's step: one call more where the stripe was free, else none
   pub ran_free : (turns : Turns P) (before now after : TurnPass P) (first n k : ℕ) (key : List ℕ) (moment : ℕ) (b : Bool) → key ≡ key_at first n → moment ≡ n → b ≡ true → k ≡ n + 1
-      → Ran turns before now (made (view_of before).caller first n) → Ran turns now after (only_if b (refusal (view_of now).caller key moment))
-      → Ran turns before after (made (view_of before).caller first k)
+      → MadeCalls turns before now (made (view_of before).caller first n) → MadeCalls turns now after (only_if b (refusal (view_of now).caller key moment))
+      → MadeCalls turns before after (made (view_of before).caller first k)
   ran_free turns before now after first n k key moment b at is free more ran last =
-      subst (λ (i : ℕ). Ran turns before after (made (view_of before).caller first i)) (sym more)
+      subst (λ (i : ℕ). MadeCalls turns before after (made (view_of before).caller first i)) (sym more)
       (ran_more turns before now after first n key moment at is ran
-      (subst (λ (t : Bool). Ran turns now after (only_if t (refusal (view_of now).caller key moment))) free last))
+      (subst (λ (t : Bool). MadeCalls turns now after (only_if t (refusal (view_of now).caller key moment))) free last))
 
   pub ran_busy : (turns : Turns P) (before now after : TurnPass P) (first n k : ℕ) (key : List ℕ) (moment : ℕ) (b : Bool) → b ≡ false → k ≡ n
-      → Ran turns before now (made (view_of before).caller first n) → Ran turns now after (only_if b (refusal (view_of now).caller key moment))
-      → Ran turns before after (made (view_of before).caller first k)
+      → MadeCalls turns before now (made (view_of before).caller first n) → MadeCalls turns now after (only_if b (refusal (view_of now).caller key moment))
+      → MadeCalls turns before after (made (view_of before).caller first k)
   ran_busy turns before now after first n k key moment b busy same ran last =
-      subst (λ (i : ℕ). Ran turns before after (made (view_of before).caller first i)) (sym same)
+      subst (λ (i : ℕ). MadeCalls turns before after (made (view_of before).caller first i)) (sym same)
       (ran_same turns before now after (made (view_of before).caller first n) ran
-      (subst (λ (t : Bool). Ran turns now after (only_if t (refusal (view_of now).caller key moment))) busy last))
+      (subst (λ (t : Bool). MadeCalls turns now after (only_if t (refusal (view_of now).caller key moment))) busy last))
 
   -- a pass that knew of nothing made calls
   ran_bare : (turns : Turns P) (before after : TurnPass P) (u : View) (i n : ℕ) → view_of before ≡ u → u.caller ≡ i → u.front.events ≡ [] → u.ended ≡ []
-      → Ran turns before after (made (view_of before).caller i n)
+      → MadeCalls turns before after (made (view_of before).caller i n)
       → ((view_of after).caller ≡ i) × ((view_of after).ended ≡ []) × (own_events (view_of after).caller (view_of after).front.events ≡ made i i n)
   ran_bare turns before after u i n e caller events ended ran =
       let named : (view_of before).caller ≡ i = ap (λ (v : View). v.caller) e ∙ caller in
@@ -161,7 +161,7 @@ module _ {P : Type 0} where
   -- Four passes of one that knew of nothing made calls and were joined.
   pub four_made : (turns : Turns P) (config : Config) (id : ℕ) (f : View) (a b c d p q r s : TurnPass P) (vw vx vy : View) (n m k l : ℕ) → f ≡ first_view config id
       → view_of a ≡ without_number (without_number (without_number f)) → view_of b ≡ with_number f → view_of c ≡ with_number (without_number f) → view_of d ≡ with_number (without_number (without_number f))
-      → Ran turns a p (made (view_of a).caller 0 n) → Ran turns b q (made (view_of b).caller 1 m) → Ran turns c r (made (view_of c).caller 2 k) → Ran turns d s (made (view_of d).caller 3 l)
+      → MadeCalls turns a p (made (view_of a).caller 0 n) → MadeCalls turns b q (made (view_of b).caller 1 m) → MadeCalls turns c r (made (view_of c).caller 2 k) → MadeCalls turns d s (made (view_of d).caller 3 l)
       → Joined (view_of p) (view_of q) vw → Joined vw (view_of r) vx → Joined vx (view_of s) vy → HasJoined vy n (m ∷ k ∷ l ∷ [])
   four_made turns config id f a b c d p q r s vw vx vy n m k l first ea eb ec ed ra rb rc rd one two three =
       let pa = ran_bare turns a p (without_number (without_number (without_number (first_view config id)))) 0 n (ea ∙ ap (λ (v : View). without_number (without_number (without_number v))) first) refl refl refl ra in

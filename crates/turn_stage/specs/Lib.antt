@@ -6,5 +6,5 @@ pub mod Events
 pub mod Seats
 pub mod Passes
 pub mod Filled
-pub mod Closed
+pub mod Unopened
 pub mod Made

@@ -1,15 +1,19 @@
-ghost use Rattle.std.specs.Prelude.{◌≡◌, ◌+◌, ◌<◌, ◌^◌, ℕ, true, false, [], ◌∷◌, length, Some, None, IfOk};
+ghost use Rattle.std.specs.Prelude.{◌≡◌, ◌+◌, ◌%◌, ◌<◌, ◌≤◌, ◌^◌, ℕ, true, false, [], ◌∷◌, length, Some, None, IfOk, IfErr};
 ghost use Rattle.ep_model.specs.declared.event.PartName.{PartName};
+ghost use Rattle.ep_model.specs.declared.event.PartName.TheVariants.{Stripe};
 ghost use Rattle.ep_model.specs.Legal.{IsLegal};
+ghost use Rattle.ep_model.specs.Stripes.{stripe_of as stripe_at};
 ghost use Rattle.hold_stage.specs.Touches.{there};
 ghost use Rattle.hold_stage.specs.Stays.{Stays};
-ghost use Rattle.hold_stage.specs.Grows.{IsNone};
-ghost use Rattle.hold_stage.specs.Went.{Went};
-ghost use Rattle.turn_stage.specs.Closed.{IsClosed, closed_keeps};
-ghost use Rattle.turn_stage.specs.Made.{refusal, noted_by, only_if, key_at, made, Ran, AreMade, HasJoined};
+ghost use Rattle.hold_stage.specs.Grows.{IsNone, Same};
+ghost use Rattle.hold_stage.specs.Went.{Went, LeavesRoom, with_noted};
+ghost use Rattle.vb_world.specs.History.{events_of};
+ghost use Rattle.vb_world.specs.World.{front_in, part_in, has_out};
+ghost use Rattle.turn_stage.specs.Unopened.{IsUnopened, unopened_keeps};
+ghost use Rattle.turn_stage.specs.Made.{refusal, noted_by, HasRefused, Becomes, KeepsOthers, only_if, key_at, made, MadeCalls, AreMade, HasJoined};
 ghost use Rattle.turn_stage.specs.Parts.{AreParts, first_view};
 ghost use Rattle.turn_stage.specs.Slots.{has};
-ghost use Rattle.turn_stage.specs.Passes.{view_of, IsPassOf};
+ghost use Rattle.turn_stage.specs.Passes.{view_of, pass_data, IsPassOf};
 
 use crate::{TurnPass, Turns};
 use ep_model::{Busy, Call, Cause, Config, Event, Eviction, NoMemory, PartName, stripe_of};
@@ -19,7 +23,7 @@ use std::marker::Brand;
 use std::test::Fail;
 use std::thread;
 use std::thread::Threads;
-use vb_world::World;
+use vb_world::{History, World};
 
 /// How many calls each thread makes, and how often it tries at most.
 const CALLS: u32 = 100_000;
@@ -45,9 +49,9 @@ struct Tally {
 }
 
 impl Stands for Tally {
-    ghost stands = { λ part front _. IsClosed part front };
+    ghost stands = { λ part front _. IsUnopened part front };
 
-    ghost keeps = { λ part front event _ _ _. closed_keeps part front event };
+    ghost keeps = { λ part front event _ _ _. unopened_keeps part front event };
 }
 
 // A part that stands for every history.
@@ -72,14 +76,29 @@ fn refuse<S: Stage<Part = Tally>>(
 ) -> Result<(), Busy>
     requires some { 0 < stripes }
     requires stripes { (S.front stage.old).config.stripes ≡ stripes }
-    requires none { IsNone (S.holds stage.old) }
+    requires free { S.holds stage.old (Stripe (stripe_at key.now stripes)) ≡ false }
     requires room { S.covers stage.old 1 (length key.now) }
     ensures stays { Stays S.lent S.fixed S.number S.is_desk S.is_telling stage.old stage.new }
-    ensures none { IsNone (S.holds stage.new) }
-    ensures config { (S.front stage.new).config ≡ (S.front stage.old).config }
     ensures went { Went (S.front stage.old) (S.front stage.new) (S.holds stage.old)
         (S.number stage.old) (S.is_desk stage.old)
         (noted_by (refusal (S.number stage.old) key.now now) result) }
+    ensures room { LeavesRoom (S.covers stage.old) (S.covers stage.new)
+        (noted_by (refusal (S.number stage.old) key.now now) result) }
+    ensures refused { HasRefused (S.front stage.new) (stripe_at key.now stripes)
+        (S.losses stage.old) (S.losses stage.new) result }
+    ensures elsewhere { IfErr result (λ _. S.elsewhere stage.old
+        (Stripe (stripe_at key.now stripes))) }
+    ensures held { Same (S.holds stage.new) (S.holds stage.old) }
+    ensures alone { S.is_telling stage.old ≡ true → S.front stage.new
+        ≡ with_noted (S.front stage.old) (noted_by (refusal (S.number stage.old) key.now now)
+        result) }
+    ensures becomes { S.is_telling stage.old ≡ true
+        → Becomes (S.tells stage.old (Stripe (stripe_at key.now stripes)))
+        (S.tells stage.new (Stripe (stripe_at key.now stripes)))
+        (λ x. record x { count = (x.count + 1) % 2 ^ 64 }) result }
+    ensures kept { S.is_telling stage.old ≡ true
+        → KeepsOthers (S.front stage.old).config (stripe_at key.now stripes) (S.tells stage.old)
+        (S.tells stage.new) }
 {
     let caller = stage.caller();
     let part = PartName::Stripe(stripe_of(key, stripes));
@@ -103,7 +122,7 @@ fn refuse_at(turns: &Turns<Tally>, pass: &mut TurnPass<Tally>, key: &[u8], now: 
     requires of { IsPassOf turns.now pass.old }
     requires stripes { turns.now.config.stripes ≡ 4 }
     requires none { IsNone (has (view_of pass.old).held) }
-    ensures ran { Ran turns.now pass.old pass.new
+    ensures ran { MadeCalls turns.now pass.old pass.new
         (only_if result (refusal (view_of pass.old).caller key.now now)) }
 {
     let mut stage = turns.stage(pass);
@@ -117,7 +136,7 @@ fn run(turns: &Turns<Tally>, mut pass: TurnPass<Tally>, first: u32) -> (TurnPass
     requires stripes { turns.now.config.stripes ≡ 4 }
     requires none { IsNone (has (view_of pass).held) }
     requires first { first < 4 }
-    ensures ran { Ran turns.now pass result.0 (made (view_of pass).caller first result.1) }
+    ensures ran { MadeCalls turns.now pass result.0 (made (view_of pass).caller first result.1) }
 {
     let mut calls = 0u32;
     for _ in 0..TRIES {
@@ -132,13 +151,40 @@ fn run(turns: &Turns<Tally>, mut pass: TurnPass<Tally>, first: u32) -> (TurnPass
     (pass, calls)
 }
 
-// The same Get where one thread has the world. Whether its stripe was free and one event is told.
-fn refuse_alone(alloc: Global, key: [u8; 1]) -> Result<bool, NoMemory> {
+// The same Get at a world's stage.
+fn refuse_alone(
+    world: &mut World<Tally>,
+    vb: u16,
+    caller: u64,
+    key: &[u8],
+    now: u64,
+    stripes: u16,
+) -> Result<(), Busy>
+    requires vb { vb < length world.old.buckets }
+    requires some { 0 < stripes }
+    requires stripes { world.old.config.stripes ≡ stripes }
+    requires free { has_out world.old vb caller (Stripe (stripe_at key.now stripes)) ≡ false }
+    requires events { 1 ≤ world.old.event_room }
+    requires bytes { length key.now ≤ world.old.byte_room }
+    ensures front { front_in world.new vb ≡ with_noted (front_in world.old vb)
+        (noted_by (refusal caller key.now now) result) }
+    ensures becomes { Becomes (part_in world.old vb (Stripe (stripe_at key.now stripes)))
+        (part_in world.new vb (Stripe (stripe_at key.now stripes)))
+        (λ x. record x { count = (x.count + 1) % 2 ^ 64 }) result }
+{
+    refuse(&mut world.stage(vb, caller), key, now, stripes)
+}
+
+// The Get of a key in a new world with one vBucket. Whether its stripe was free, and what then happened.
+fn refuse_first(alloc: Global, key: [u8; 1]) -> Result<(bool, History), NoMemory>
+    ensures free { IfOk result (λ told. told.0 ≡ true) }
+    ensures events { IfOk result (λ told. events_of 0 told.1 ≡ refusal 7 key 0 ∷ []) }
+{
     let mut world = World::new(alloc, &ONE)?;
     world.add(tallies(alloc)?)?;
     world.reserve(1, 1)?;
-    let free = refuse(&mut world.stage(0, 7), &key, 0, 1).is_ok();
-    Ok(free && world.into_history().count() == 1)
+    let free = refuse_alone(&mut world, 0, 7, &key, 0, 1).is_ok();
+    Ok((free, world.into_history()))
 }
 
 // Two threads, each with a pass of its own.
@@ -153,8 +199,8 @@ fn run_two<R: Threads + Sync>(
     requires stripes { turns.now.config.stripes ≡ 4 }
     requires none { IsNone (has (view_of one).held) × IsNone (has (view_of other).held) }
     requires first { first < 3 }
-    ensures one { Ran turns.now one result.0.0 (made (view_of one).caller first result.0.1) }
-    ensures other { Ran turns.now other result.1.0
+    ensures one { MadeCalls turns.now one result.0.0 (made (view_of one).caller first result.0.1) }
+    ensures other { MadeCalls turns.now other result.1.0
         (made (view_of other).caller (first + 1) result.1.1) }
 {
     thread::join(
@@ -164,14 +210,15 @@ fn run_two<R: Threads + Sync>(
             requires stripes { turns.now.config.stripes ≡ 4 }
             requires none { IsNone (has (view_of one).held) }
             requires first { first < 4 }
-            ensures { Ran turns.entry.now one result.0 (made (view_of one).caller first result.1) }
+            ensures { MadeCalls turns.entry.now one result.0
+                (made (view_of one).caller first result.1) }
         { run(turns, one, first) },
         move || -> (TurnPass<Tally>, u32)
             requires of { IsPassOf turns.now other }
             requires stripes { turns.now.config.stripes ≡ 4 }
             requires none { IsNone (has (view_of other).held) }
             requires first { first < 3 }
-            ensures { Ran turns.entry.now other result.0
+            ensures { MadeCalls turns.entry.now other result.0
                 (made (view_of other).caller (first + 1) result.1) }
         { run(turns, other, first + 1) },
     )
@@ -197,6 +244,26 @@ fn one_stripe(alloc: Global) -> Result<(Turns<Tally>, TurnPass<Tally>), NoMemory
     Turns::new(alloc, &ONE, 0, parts)
 }
 
+// Whether a part is with somebody else. A part that is free is given back.
+fn is_out(turns: &Turns<Tally>, pass: &mut TurnPass<Tally>, part: PartName) -> bool
+    requires of { IsPassOf turns.now pass.old }
+    requires there { there turns.now.config part ≡ true }
+    requires none { IsNone (has (view_of pass.old).held) }
+    ensures of { IsPassOf turns.now pass.new }
+    ensures none { IsNone (has (view_of pass.new).held) }
+    ensures numbers { pass_data (view_of pass.new) ≡ pass_data (view_of pass.old) }
+{
+    let mut stage = turns.stage(pass);
+    stage.look();
+    match stage.take(part) {
+        Ok(value) => {
+            stage.give(part, value);
+            false
+        }
+        Err(busy) => busy.part == part,
+    }
+}
+
 #[test]
 fn a_part_that_is_out_is_busy_until_it_is_given_back(rt: HostRuntime) -> Result<(), Fail> {
     let (turns, mut first) = one_stripe(rt.alloc())?;
@@ -207,14 +274,7 @@ fn a_part_that_is_out_is_busy_until_it_is_given_back(rt: HostRuntime) -> Result<
     let Ok(mut queue) = stage.take(PartName::Queue) else {
         panic!(rt; "nobody has the queue")
     };
-    let mut other = turns.stage(&mut second);
-    assert!(rt; other.caller() == 1);
-    other.look();
-    assert!(rt;
-        other
-            .take(PartName::Queue)
-            .is_err_and(|busy| busy.part == PartName::Queue)
-    );
+    assert!(rt; is_out(&turns, &mut second, PartName::Queue));
     let mut free = turns.stage(&mut third);
     let Ok(desk) = free.take(PartName::Desk) else {
         panic!(rt; "nobody has the desk")
@@ -350,18 +410,18 @@ fn run_four<R: Threads + Sync>(
             requires of { IsPassOf turns.now first × IsPassOf turns.now second }
             requires stripes { turns.now.config.stripes ≡ 4 }
             requires none { IsNone (has (view_of first).held) × IsNone (has (view_of second).held) }
-            ensures one { Ran turns.entry.now first result.0.0
+            ensures one { MadeCalls turns.entry.now first result.0.0
                 (made (view_of first).caller 0 result.0.1) }
-            ensures other { Ran turns.entry.now second result.1.0
+            ensures other { MadeCalls turns.entry.now second result.1.0
                 (made (view_of second).caller 1 result.1.1) }
         { run_two(rt, turns, first, second, 0) },
         move || -> ((TurnPass<Tally>, u32), (TurnPass<Tally>, u32))
             requires of { IsPassOf turns.now third × IsPassOf turns.now fourth }
             requires stripes { turns.now.config.stripes ≡ 4 }
             requires none { IsNone (has (view_of third).held) × IsNone (has (view_of fourth).held) }
-            ensures one { Ran turns.entry.now third result.0.0
+            ensures one { MadeCalls turns.entry.now third result.0.0
                 (made (view_of third).caller 2 result.0.1) }
-            ensures other { Ran turns.entry.now fourth result.1.0
+            ensures other { MadeCalls turns.entry.now fourth result.1.0
                 (made (view_of fourth).caller 3 result.1.1) }
         { run_two(rt, turns, third, fourth, 2) },
     );
@@ -378,7 +438,7 @@ fn close_made(turns: Turns<Tally>, pass: TurnPass<Tally>, first: u32, others: &[
     requires alone { (view_of pass).share ≡ 2 ^ 64 }
     requires none { IsNone (has (view_of pass).held) }
     requires joined { HasJoined (view_of pass) first others.now }
-    ensures parts { AreParts (λ part front _. IsClosed part front) (view_of pass).front
+    ensures parts { AreParts (λ part front _. IsUnopened part front) (view_of pass).front
         result.items }
     ensures legal { IsLegal (view_of pass).front }
     ensures made { AreMade (view_of pass).front 0 (first ∷ others.now) }
@@ -399,6 +459,7 @@ fn four_threads_make_each_call_once_in_order(rt: HostRuntime) -> Result<(), Fail
 
 #[test]
 fn a_call_made_between_threads_is_made_alone_too(rt: HostRuntime) -> Result<(), Fail> {
-    assert!(rt; refuse_alone(rt.alloc(), [9])?);
+    let (free, history) = refuse_first(rt.alloc(), [9])?;
+    assert!(rt; free && history.count() == 1);
     Ok(())
 }

@@ -16,16 +16,16 @@ use Rattle.hold_stage.specs.Touches.{touches, is_stripe}
 use Rattle.hold_stage.specs.Grows.{Same, and_this, Covered, Noted}
 use Rattle.hold_stage.proofs.LaterLemmas.{world_step}
 use Rattle.hold_stage.proofs.OwnLemmas.{holds_stripe, taken_held}
-use Rattle.turn_stage.specs.Closed.{IsClosed}
+use Rattle.turn_stage.specs.Unopened.{IsUnopened}
 use Rattle.hold_stage.specs.Slots.{bare_front}
 
-pub closed_bare : (config : Config) (vb : ℕ) (p : PartName) → IsClosed p (bare_front config vb)
-closed_bare config vb (Stripe stripe) = λ there. refl
-closed_bare config vb Queue = tt
-closed_bare config vb Desk = tt
+pub unopened_bare : (config : Config) (vb : ℕ) (p : PartName) → IsUnopened p (bare_front config vb)
+unopened_bare config vb (Stripe stripe) = λ there. refl
+unopened_bare config vb Queue = tt
+unopened_bare config vb Desk = tt
 
 -- a Get is refused at its stripe, which stays closed
-pub refused_may : (f : FrontData) (stripe stripes caller : ℕ) (key : List ℕ) (now : ℕ) → stripe < stripes → f.config.stripes ≡ stripes → IsClosed (Stripe stripe) f → May f (Refused caller (Get key) now Warming)
+pub refused_may : (f : FrontData) (stripe stripes caller : ℕ) (key : List ℕ) (now : ℕ) → stripe < stripes → f.config.stripes ≡ stripes → IsUnopened (Stripe stripe) f → May f (Refused caller (Get key) now Warming)
 unfolding May
 refused_may f stripe stripes caller key now below same closed = closed (ap (λ n. nat_lt stripe n) same ∙ lt-ltb stripe stripes below)
 
@@ -36,9 +36,9 @@ refused_covered f held holds stripe stripes caller key now is same_stripes same 
     let here : stripe ≡ stripe_of key f.config.stripes = is ∙ ap (λ n. stripe_of key n) (sym same_stripes) in
     holds_stripe holds stripe (taken_held (Stripe stripe) held holds same) p (ap (λ s. is_stripe s p) here ∙ touched)
 
-pub refused_closed : {P : Type 0} (f g : FrontData) (held holds : PartName → Bool) (number : ℕ) (desk : Bool) (stripe caller : ℕ) (key : List ℕ) (now : ℕ) (x : P)
-    → Same holds (and_this (Stripe stripe) held) → IsClosed (Stripe stripe) f
-    → Noted (λ p k (y : P). IsClosed p k) f g holds number desk (Refused caller (Get key) now Warming) → IsClosed (Stripe stripe) g
-refused_closed f g held holds number desk stripe caller key now x same closed n =
-    subst (λ (k : FrontData). IsClosed (Stripe stripe) k) (sym n.last)
+pub refused_unopened : {P : Type 0} (f g : FrontData) (held holds : PartName → Bool) (number : ℕ) (desk : Bool) (stripe caller : ℕ) (key : List ℕ) (now : ℕ) (x : P)
+    → Same holds (and_this (Stripe stripe) held) → IsUnopened (Stripe stripe) f
+    → Noted (λ p k (y : P). IsUnopened p k) f g holds number desk (Refused caller (Get key) now Warming) → IsUnopened (Stripe stripe) g
+refused_unopened f g held holds number desk stripe caller key now x same closed n =
+    subst (λ (k : FrontData). IsUnopened (Stripe stripe) k) (sym n.last)
     (λ is. ap (λ (w : World). w.opened) (world_step n.between (Refused caller (Get key) now Warming)) ∙ n.kept (Stripe stripe) x (taken_held (Stripe stripe) held holds same) closed is)

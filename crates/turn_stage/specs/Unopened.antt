@@ -12,14 +12,14 @@ use Rattle.hold_stage.proofs.LaterLemmas.{world_step}
 use Rattle.hold_stage.proofs.ViewLemmas.{step_stripe}
 
 -- the vBucket hasn't opened, as far as its stripes know
-abbrev pub IsClosed : PartName → FrontData → Type 0
-IsClosed (Stripe stripe) f = nat_lt stripe f.config.stripes ≡ true → (world_of f).opened ≡ false
-IsClosed Queue f = Unit {0}
-IsClosed Desk f = Unit {0}
+abbrev pub IsUnopened : PartName → FrontData → Type 0
+IsUnopened (Stripe stripe) f = nat_lt stripe f.config.stripes ≡ true → (world_of f).opened ≡ false
+IsUnopened Queue f = Unit {0}
+IsUnopened Desk f = Unit {0}
 
 -- an event that doesn't touch a part leaves this
-pub closed_keeps : (p : PartName) (f : FrontData) (event : EventData) → touches f event p ≡ false → IsClosed p f → IsClosed p (with_event f event)
-closed_keeps (Stripe stripe) f event apart closed = λ there.
+pub unopened_keeps : (p : PartName) (f : FrontData) (event : EventData) → touches f event p ≡ false → IsUnopened p f → IsUnopened p (with_event f event)
+unopened_keeps (Stripe stripe) f event apart closed = λ there.
     ap (λ (w : World). w.opened) (world_step f event) ∙ (step_stripe f stripe (world_of f) event there apart).opened ∙ closed there
-closed_keeps Queue f event apart closed = tt
-closed_keeps Desk f event apart closed = tt
+unopened_keeps Queue f event apart closed = tt
+unopened_keeps Desk f event apart closed = tt
