@@ -115,7 +115,7 @@ pub trait Stage {
             ≡ with_event (front self.old) (event_data event.now) }
         ensures tells { is_telling self.old ≡ true → (p : PartName) → tells self.new p ≡ tells self.old p };
 
-    /// Learns what others noted.
+    /// Lets the front grow by what others noted. How much it learns no clause says.
     fn look(&mut self)
         ensures stays { Stays lent fixed number is_desk is_telling self.old self.new }
         ensures room { (n b : ℕ) → covers self.old n b → covers self.new n b }

@@ -19,7 +19,7 @@ abbrev pub part_of : {P : Type 0} → Step (Option P) → View → PartName
 part_of st v = name_of v.front.config (st.word - 1)
 
 module _ {P : Type 0} (stands : PartName → FrontData → P → Type 0) where
-  -- the history was seen: the front goes up to its end
+  -- the front grew, by how much isn't said
   pub record Looked (m n : Me (Option P) View) : Type 0 where
     pub is : n ≡ (record m.0 { front = n.0.front }, m.1)
     pub grown : Grown m.0.front n.0.front (has m.0.held) m.0.caller m.0.desk

@@ -53,7 +53,7 @@ pub fn take<P: Stands>(
     value
 }
 
-// Brings the front up to the history's end. One step.
+// Lets the front grow by what others noted, by how much no clause says. One step.
 pub fn look<P: Stands>(board: &Board<P>, seat: &mut Seat<P>)
     requires board { seat.old.table_id ≡ board.now.table_id }
     requires words { 0 < board.now.table_id.words }

@@ -41,7 +41,7 @@ impl Noting for Brand {
     ghost event = { any_event };
 }
 
-/// Brings the front up to the history.
+/// Lets the front grow by what others noted.
 pub struct Looks;
 
 impl<P: Stands> Play<Option<P>, View> for Looks {

@@ -51,7 +51,7 @@ impl<P: Stands + Drop> Turns<P> {
         }
     }
 
-    // Brings the pass's front up to the history's end.
+    // Lets the pass's front grow by what others noted.
     pub(crate) fn look(&self, pass: &mut TurnPass<P>)
         requires of { IsPassOf self.now pass.old }
         ensures of { IsPassOf self.now pass.new }
