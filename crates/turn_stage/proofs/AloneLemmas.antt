@@ -10,7 +10,7 @@ use Rattle.ep_model.specs.declared.data.FrontData.{FrontData}
 use Rattle.ep_model.specs.Stripes.{stripe_of}
 use Rattle.hold_stage.specs.Went.{with_noted}
 use Rattle.vb_world.specs.declared.data.WorldData.{WorldData}
-use Rattle.vb_world.specs.World.{front_in, part_in, has_out, empty_world, with_bucket}
+use Rattle.vb_world.specs.World.{front_in, part_in, has_out, no_buckets, with_bucket}
 use Rattle.vb_world.specs.History.{events_of}
 use Rattle.vb_world.proofs.PlaceLemmas.{out_pushed, out_nowhere}
 use Rattle.turn_stage.specs.Made.{noted_by, Becomes}
@@ -25,7 +25,7 @@ noted_free f event (Err e) free bare = absurd (cc)
 
 module _ {P : Type 0} where
   -- the first part of a world's first vBucket is at home
-  first_home : (config : Config) (parts : List P) → config.stripes ≡ 1 → length parts ≡ 3 → (x : P) × (part_in (with_bucket (empty_world config) parts) 0 (Stripe 0) ≡ Some x)
+  first_home : (config : Config) (parts : List P) → config.stripes ≡ 1 → length parts ≡ 3 → (x : P) × (part_in (with_bucket (no_buckets config) parts) 0 (Stripe 0) ≡ Some x)
   first_home config [] one three = absurd (omega arith)
   first_home config (x ∷ parts) one three = (x, rw one refl)
 
@@ -36,15 +36,15 @@ module _ {P : Type 0} where
 
   -- A world to which one vBucket was added and room was made.
   abbrev pub IsFirst : Config → List P → WorldData P → Type 0
-  IsFirst config parts w = w ≡ record (with_bucket (empty_world config) parts) { event_room = w.event_room; byte_room = w.byte_room }
+  IsFirst config parts w = w ≡ record (with_bucket (no_buckets config) parts) { event_room = w.event_room; byte_room = w.byte_room }
 
-  pub first_world : (a b w : WorldData P) (config : Config) (parts : List P) → a ≡ empty_world config → b ≡ with_bucket a parts → w ≡ record b { event_room = w.event_room; byte_room = w.byte_room } → IsFirst config parts w
+  pub first_world : (a b w : WorldData P) (config : Config) (parts : List P) → a ≡ no_buckets config → b ≡ with_bucket a parts → w ≡ record b { event_room = w.event_room; byte_room = w.byte_room } → IsFirst config parts w
   first_world a b w config parts new added reserved =
       reserved ∙ ap (λ (x : WorldData P). record x { event_room = w.event_room; byte_room = w.byte_room }) (added ∙ ap (λ (x : WorldData P). with_bucket x parts) new)
 
   pub first_free : (w : WorldData P) (config : Config) (parts : List P) (caller : ℕ) (p : PartName) → IsFirst config parts w → has_out w 0 caller p ≡ false
   first_free w config parts caller p first =
-      ap (λ (x : WorldData P). has_out x 0 caller p) first ∙ out_pushed (empty_world config) parts 0 caller p (out_nowhere (empty_world config) 0 caller p refl)
+      ap (λ (x : WorldData P). has_out x 0 caller p) first ∙ out_pushed (no_buckets config) parts 0 caller p (out_nowhere (no_buckets config) 0 caller p refl)
 
   -- so a call there is refused, and that is all that happened
   pub first_refused : {A E : Type 0} (w : WorldData P) (config : Config) (parts : List P) (key : List ℕ) (new : Option P) (f : P → P) (r : Result A E) → IsFirst config parts w → config.stripes ≡ 1 → length parts ≡ 3
