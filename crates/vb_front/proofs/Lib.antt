@@ -21,3 +21,4 @@ pub mod SeenLemmas
 pub mod RowEffectLemmas
 pub mod WriteLemmas
 pub mod RoomLemmas
+pub mod WriteExactLemmas

@@ -6,6 +6,7 @@ pub mod Priors
 pub mod Waits
 pub mod Reads
 pub mod Writes
+pub mod WriteSteps
 pub mod Controls
 pub mod Desks
 pub mod Laws

@@ -20,6 +20,7 @@ ghost use Rattle.vb_front.specs.Priors.{key_in};
 ghost use Rattle.vb_front.specs.Writes.{seen_meta, shown_doc, text_at, is_away, HasText};
 ghost use Rattle.vb_front.specs.Writes.{write_over, write_waits, write_found, write_step};
 ghost use Rattle.vb_front.specs.Reads.{KeepsStripe};
+ghost use Rattle.vb_front.specs.WriteSteps.{WriteIsExact};
 ghost use Rattle.vb_front.specs.Writes.{Comes, Leaves, WriteIsLegal, AnsweredHasRoom};
 
 use crate::get::{answer, refuse};
@@ -268,8 +269,8 @@ fn write_key(
 
 /// Does a call that may put a document on the stripe of its key and the queue. `prior` is the ticket at which this call has
 /// asked before, if it has. The value of the answer goes into `value`, which is emptied first and in which the document's new
-/// value is made. Its cost is linear in the number of the stripe's slots, once for each document that is ejected, in its
-/// places, in the items of the open checkpoint and in the values.
+/// value is made. Its cost is linear in the number of the stripe's slots, once more for each document that is ejected, in its
+/// places, in the items of the open checkpoint and those that go, and in the values.
 pub fn write(
     part: &mut StripePart,
     queue: &mut Queue,
@@ -296,6 +297,8 @@ pub fn write(
     ensures keeps { KeepsStripe part.old part.new }
     ensures legal { WriteIsLegal part.old queue.old (call_data call.now) (key_in (call_data call.now)) now prior
         (write_step part.old queue.old prior (call_data call.now) (key_in (call_data call.now)) now) part.new queue.new }
+    ensures exact { WriteIsExact part.old queue.old (call_data call.now) (key_in (call_data call.now)) now prior
+        (write_step part.old queue.old prior (call_data call.now) (key_in (call_data call.now)) now) }
     ensures fits { AnsweredHasRoom part.old queue.old (call_data call.now) (key_in (call_data call.now)) now prior
         (write_step part.old queue.old prior (call_data call.now) (key_in (call_data call.now)) now) }
 {

@@ -4,6 +4,7 @@ use Rattle.vb_front.specs.Priors.{key_in}
 use Rattle.vb_front.specs.Writes.{Leaves, write_step}
 use Rattle.vb_front.proofs.WriteLemmas.{within_key, write_is_legal}
 use Rattle.vb_front.proofs.RoomLemmas.{write_has_room}
+use Rattle.vb_front.proofs.WriteExactLemmas.{write_is_exact}
 use Rattle.vb_front.proofs.writes.write.Goals as goal
 
 pub returns-then-not-is_opened-clause-legal : goal.returns-then-not-is_opened-clause-legal
@@ -38,3 +39,18 @@ pub returns-clause-fits : goal.returns-clause-fits
 returns-clause-fits c =
     let call = call_data c.args.call.now in
     write_has_room c.args.part.now c.args.queue.now call (key_in call) c.args.now c.args.prior c.requires.keyed (within_key call (key_in call) c.requires.keyed c.requires.within) c.free-free.ensures.sound c.requires.home
+
+pub returns-then-not-is_opened-clause-exact : goal.returns-then-not-is_opened-clause-exact
+returns-then-not-is_opened-clause-exact c =
+    let call = call_data c.args.call.now in
+    write_is_exact c.args.part.now c.args.queue.now call (key_in call) c.args.now c.requires.keyed c.args.prior
+
+pub returns-in-Some-clause-exact : goal.returns-in-Some-clause-exact
+returns-in-Some-clause-exact c =
+    let call = call_data c.args.call.now in
+    write_is_exact c.args.part.now c.args.queue.now call (key_in call) c.args.now c.requires.keyed c.args.prior
+
+pub returns-clause-exact : goal.returns-clause-exact
+returns-clause-exact c =
+    let call = call_data c.args.call.now in
+    write_is_exact c.args.part.now c.args.queue.now call (key_in call) c.args.now c.requires.keyed c.args.prior
