@@ -57,13 +57,13 @@ session_from : (before now : Outside) (end : End) (history : List (ℕ × EventD
     → TakesBytes before.left now.left taken
     → (p : Advances (begin before taken) (record { rest = rest; history = history; pending = pending; held = now.held; moment = moment; features = features; quit = quit }))
     → Divides taken (bytes_of p.served ++ unserved) left → (is_cut end ≡ false → quit ≡ false → unserved ≡ [])
-    → extra ≤ 1 → (is_cut end ≡ false → extra ≡ 0) → (extra ≢ 0 → unserved ≢ []) → (end ≡ ends.NoMemory → unserved ≢ []) → ((k : ℕ) → now.moment k ≡ moment (extra + k)) → (end ≢ ends.WriteFault → pending ≡ [])
+    → extra ≤ 1 → (is_cut end ≡ false → extra ≡ 0) → (quit ≡ true → extra ≡ 0) → (extra ≢ 0 → unserved ≢ []) → (end ≡ ends.NoMemory → unserved ≢ []) → ((k : ℕ) → now.moment k ≡ moment (extra + k)) → (end ≢ ends.WriteFault → pending ≡ [])
     → IsLegalHistory history → end ≢ ends.BadWords → Comes before now taken left quit end
     → ReadsInTurn before now taken p.served p.written → (end ≢ ends.ReadFault → now.read_faults ≡ before.read_faults) → (end ≢ ends.WriteFault → now.write_faults ≡ before.write_faults)
     → (end ≡ ends.WriteFault → LastFails (begin before taken) before.write_faults p.served now.last_offer)
     → (end ≡ ends.WriteFault → now.last_offer.count ≤ most_pending → quit ≡ false → extra ≡ 0 → unserved ≡ []) → (end ≡ ends.WriteFault → most_pending < now.last_offer.count → extra ≡ 0)
     → IsSession before now end history
-session_from before now end history taken rest pending moment features quit extra unserved left takes p d all few exact cut_off wanting asked whole legal not comes reads reading writing fails due at_once = record {
+session_from before now end history taken rest pending moment features quit extra unserved left takes p d all few exact behind cut_off wanting asked whole legal not comes reads reading writing fails due at_once = record {
   taken = taken;
   frames = bytes_of p.served ++ unserved;
   rest = left;
@@ -81,6 +81,7 @@ session_from before now end history taken rest pending moment features quit extr
   extra = extra;
   few = few;
   exact = exact;
+  behind_quit = behind;
   cut_off = cut_off;
   asked = λ k. asked k ∙ p.asked (extra + k);
   wanting = λ is. inr (wanting is);
@@ -153,19 +154,19 @@ no_frames rest frames left is d = (one_division d (stream_divides.stopped rest [
 session_of : (before now : Outside) (end : End) (history : List (ℕ × EventData)) (taken rest pending : List ℕ) (moment : ℕ → Option ℕ) (features : Features) (quit : Bool) (extra : ℕ)
     → TakesBytes before.left now.left taken
     → (p : Advances (begin before taken) (record { rest = rest; history = history; pending = pending; held = now.held; moment = moment; features = features; quit = quit }))
-    → extra ≤ 1 → (is_cut end ≡ false → extra ≡ 0) → (extra ≢ 0 → BeginsWithFrame rest) → (end ≡ ends.NoMemory → BeginsWithFrame rest) → ((k : ℕ) → now.moment k ≡ moment (extra + k)) → (end ≢ ends.WriteFault → pending ≡ [])
+    → extra ≤ 1 → (is_cut end ≡ false → extra ≡ 0) → (quit ≡ true → extra ≡ 0) → (extra ≢ 0 → BeginsWithFrame rest) → (end ≡ ends.NoMemory → BeginsWithFrame rest) → ((k : ℕ) → now.moment k ≡ moment (extra + k)) → (end ≢ ends.WriteFault → pending ≡ [])
     → IsLegalHistory history → end ≢ ends.BadWords → Comes before now taken rest quit end
     → ReadsInTurn before now taken p.served p.written → (end ≢ ends.ReadFault → now.read_faults ≡ before.read_faults) → (end ≢ ends.WriteFault → now.write_faults ≡ before.write_faults)
     → (end ≡ ends.WriteFault → LastFails (begin before taken) before.write_faults p.served now.last_offer)
     → (end ≡ ends.WriteFault → now.last_offer.count ≤ most_pending → quit ≡ false → extra ≡ 0 → IsRest rest) → (end ≡ ends.WriteFault → most_pending < now.last_offer.count → extra ≡ 0)
     → IsSession before now end history
-session_of before now end history taken rest pending moment features quit extra takes p few exact cut_off wanting asked whole legal not comes reads reading writing fails due at_once =
+session_of before now end history taken rest pending moment features quit extra takes p few exact behind cut_off wanting asked whole legal not comes reads reading writing fails due at_once =
     let cut : (b : Bool) → is_cut end || quit ≡ b → IsSession before now end history =
     elim [
       | true ↦ λ is. let d = some_division rest in
-          session_from before now end history taken rest pending moment features quit extra d.0 d.1 takes p (subst (λ (t : List ℕ). Divides t (bytes_of p.served ++ d.0) d.1) (sym p.cut.whole) (divides_after (bytes_of p.served) p.cut.each d.2)) (λ other none. absurd (or_true_not (is_cut end) quit is other none)) few exact (λ some. some_frame rest d.0 d.1 d.2 (cut_off some)) (λ at. some_frame rest d.0 d.1 d.2 (wanting at)) asked whole legal not (comes_anywhere end before now taken rest d.1 quit is comes) reads reading writing fails (λ fault few none zero. no_frames rest d.0 d.1 (due fault few none zero) d.2) at_once
+          session_from before now end history taken rest pending moment features quit extra d.0 d.1 takes p (subst (λ (t : List ℕ). Divides t (bytes_of p.served ++ d.0) d.1) (sym p.cut.whole) (divides_after (bytes_of p.served) p.cut.each d.2)) (λ other none. absurd (or_true_not (is_cut end) quit is other none)) few exact behind (λ some. some_frame rest d.0 d.1 d.2 (cut_off some)) (λ at. some_frame rest d.0 d.1 d.2 (wanting at)) asked whole legal not (comes_anywhere end before now taken rest d.1 quit is comes) reads reading writing fails (λ fault few none zero. no_frames rest d.0 d.1 (due fault few none zero) d.2) at_once
       | false ↦ λ is. session_from before now end history taken rest pending moment features quit extra [] rest takes p
-          (subst (λ (frames : List (List ℕ)). Divides taken frames rest) (sym (append-nil (bytes_of p.served))) (stream_divides.stopped taken (bytes_of p.served) rest p.cut (rest_from end before now taken rest quit not (or_false_left (is_cut end) quit is) (or_false_right (is_cut end) quit is) comes))) (λ _ _. refl) few exact (λ some. absurd (some (exact (or_false_left (is_cut end) quit is)))) (λ at. absurd (let c = or_false_left (is_cut end) quit is in let e = ap is_cut at in cc)) asked whole legal not comes reads reading writing fails (λ _ _ _ _. refl) at_once
+          (subst (λ (frames : List (List ℕ)). Divides taken frames rest) (sym (append-nil (bytes_of p.served))) (stream_divides.stopped taken (bytes_of p.served) rest p.cut (rest_from end before now taken rest quit not (or_false_left (is_cut end) quit is) (or_false_right (is_cut end) quit is) comes))) (λ _ _. refl) few exact behind (λ some. absurd (some (exact (or_false_left (is_cut end) quit is)))) (λ at. absurd (let c = or_false_left (is_cut end) quit is in let e = ap is_cut at in cc)) asked whole legal not comes reads reading writing fails (λ _ _ _ _. refl) at_once
     ] in
     cut (is_cut end || quit) refl
 
@@ -212,6 +213,10 @@ comes_later ends.Closed before mid now taken rest quit left ended read write h =
 exact_from : (end : End) (extra : ℕ) → (end ≢ ends.NoMemory → extra ≡ 0) → is_cut end ≡ false → extra ≡ 0
 exact_from end extra exact cut = exact (λ is. absurd (let e = ap is_cut is in cc))
 
+-- a Quit is no want of memory
+behind_quit_end : (end : End) (extra : ℕ) → (end ≢ ends.NoMemory → extra ≡ 0) → is_quit_end end ≡ true → extra ≡ 0
+behind_quit_end end extra exact is = exact (λ none. absurd (let e = sym (ap is_quit_end none) ∙ is in cc))
+
 -- a session that stopped, and then wrote its last answers
 session_written : (before mid now : Outside) (end final : End) (responder : Responder) (s : Stops before mid end responder) (w : Written end final responder.conn.out.bytes mid.held now.held mid.write_faults now.write_faults)
     → now.left ≡ mid.left → IsReadNoMore mid now → now.has_ended ≡ mid.has_ended → now.read_faults ≡ mid.read_faults → ((k : ℕ) → now.moment k ≡ mid.moment k)
@@ -223,7 +228,7 @@ session_written before mid now end final responder s w left earlier ended read m
     (session_of before now end responder.history s.taken s.rest [] s.moment responder.conn.features (is_quit_end end) s.extra
     (subst (λ (o : Option (List ℕ)). TakesBytes before.left o s.taken) (sym left) s.takes)
     (serves_then _ here _ s.serves (serves_writes here [] now.held pending))
-    s.few (exact_from end s.extra s.exact) s.cut_off s.wanting (λ k. moment k ∙ s.asked k) (λ _. refl) s.legal s.served
+    s.few (exact_from end s.extra s.exact) (behind_quit_end end s.extra s.exact) s.cut_off s.wanting (λ k. moment k ∙ s.asked k) (λ _. refl) s.legal s.served
     (comes_later end before mid now s.taken s.rest (is_quit_end end) left ended read w.quiet s.comes)
     (reads_more before mid now s.taken s.serves.served [] _ s.serves.written pending.written _ earlier
     (serves_then-served _ here _ s.serves _ ∙ ap (λ l. s.serves.served ++ l) (serves_writes-served here [] now.held pending))
@@ -256,7 +261,7 @@ session_lost before mid now end final responder s w left earlier read moment =
     (session_of before now ends.WriteFault responder.history s.taken s.rest w.lost s.moment responder.conn.features (is_quit_end end) s.extra
     (subst (λ (o : Option (List ℕ)). TakesBytes before.left o s.taken) (sym left) s.takes)
     (serves_then _ here _ s.serves (serves_writes here w.lost now.held pending))
-    s.few (λ cut. cc) s.cut_off (λ e. cc) (λ k. moment k ∙ s.asked k) (λ not. absurd (not refl)) s.legal (λ e. cc)
+    s.few (λ cut. cc) (behind_quit_end end s.extra s.exact) s.cut_off (λ e. cc) (λ k. moment k ∙ s.asked k) (λ not. absurd (not refl)) s.legal (λ e. cc)
     (rose_from _ _ _ (s.writing w.able) w.why)
     (reads_more before mid now s.taken s.serves.served [] _ s.serves.written pending.written _ earlier
     (serves_then-served _ here _ s.serves _ ∙ ap (λ l. s.serves.served ++ l) (serves_writes-served here w.lost now.held pending))
@@ -288,7 +293,7 @@ session_broken before mid now end final responder s w left earlier ended read mo
       moments = s.serves.moments;
       asked = s.serves.asked;
     })
-    s.few (exact_from end s.extra s.exact) s.cut_off s.wanting (λ k. moment k ∙ s.asked k) (λ not. absurd (not w.before)) s.legal s.served
+    s.few (exact_from end s.extra s.exact) (behind_quit_end end s.extra s.exact) s.cut_off s.wanting (λ k. moment k ∙ s.asked k) (λ not. absurd (not w.before)) s.legal s.served
     (comes_later end before mid now s.taken s.rest (is_quit_end end) left ended read w.quiet s.comes)
     (reads_more before mid now s.taken s.serves.served [] _ s.serves.written [] _ earlier (sym (append-nil s.serves.served)) (sym (append-nil s.serves.written)) s.reads)
     (λ not. read ∙ s.reading not) (λ able. w.quiet ∙ s.writing able)
@@ -356,6 +361,7 @@ session_none before end able noted comes = record {
   extra = 0;
   few = omega arith;
   exact = λ _. refl;
+  behind_quit = λ _. refl;
   cut_off = λ some. absurd (some refl);
   asked = λ k. ap before.moment (omega arith);
   wanting = λ _. inl refl;

@@ -148,6 +148,8 @@ pub record IsSession (before now : Outside) (end : End) (history : List (ℕ × 
   pub exact : is_cut end ≡ false → extra ≡ 0
   pub cut_off : extra ≢ 0 → unserved ≢ []
   pub asked : (k : ℕ) → now.moment k ≡ before.moment (length served + (extra + k))
+  -- behind a Quit it is asked no more, whichever way that ends
+  pub behind_quit : quit ≡ true → extra ≡ 0
   -- memory was wanting before the session opened, or for a frame that isn't served; a session that didn't open did nothing
   pub wanting : end ≡ ends.NoMemory → (history ≡ []) ⊎ (unserved ≢ [])
   pub unopened : history ≡ [] → (taken ≡ []) × (extra ≡ 0)
