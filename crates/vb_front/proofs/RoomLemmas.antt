@@ -1,9 +1,7 @@
 -- A call that is answered had room, as far as documents are known.
-use Rattle.std.proofs.Common.{◌≡◌, ℕ, ◌+◌, ◌<◌, ◌≤◌, Bool, true, false, not, ◌||◌, cond, max, List, [], ◌∷◌, length, refl, sym, ap, subst, ◌∙◌, arith}
-use Rattle.std.specs.Prelude.{Option, Some, None, is_none, ◌==◌, ◌&&◌, nat_lt, nat_le}
-use Rattle.std.specs.Option.{is_some}
+use Rattle.std.proofs.Common.{◌≡◌, ℕ, ◌+◌, ◌≤◌, Bool, true, false, not, ◌||◌, cond, max, List, [], ◌∷◌, length, refl, sym, ap, subst, ◌∙◌, arith}
+use Rattle.std.specs.Prelude.{Option, Some, None, is_none, ◌==◌, ◌&&◌, nat_lt}
 use Rattle.std.specs.FinMap.{get}
-use Rattle.std.specs.Str.{bytes_eq}
 use Rattle.std.proofs.lemmas.Slice.Eq.{bytes_eq-Decides}
 use Rattle.std.proofs.lemmas.Bool.Decides.{nat_tests}
 use Rattle.ep_model.specs.declared.call.Reply.{Reply}
@@ -14,13 +12,13 @@ use Rattle.ep_model.specs.declared.event.Cause.TheVariants as causes
 use Rattle.ep_model.specs.declared.event.Ticket.{Ticket}
 use Rattle.ep_model.specs.declared.data.CallData.{CallData}
 use Rattle.ep_model.specs.declared.data.FrontData.{FrontData}
-use Rattle.ep_model.specs.World.{Doc, World, blocks, doc_blocks, meta_of, live_of}
+use Rattle.ep_model.specs.World.{Doc, blocks, doc_blocks, live_of}
 use Rattle.ep_model.specs.Limits.{IsKey}
 use Rattle.ep_model.specs.Stripes.{stripe_of}
 use Rattle.ep_model.specs.Calls.{key_of, written_key}
 use Rattle.ep_model.specs.Needs.{needs, own_refusal}
 use Rattle.ep_model.specs.Refusals.{state_refusal}
-use Rattle.ep_model.specs.Answer.{Answer, Effect, Nothing, Puts, Sets, refused, answer}
+use Rattle.ep_model.specs.Answer.{Answer, Effect, Nothing, Puts, Sets, answer}
 use Rattle.ep_model.specs.Mutations.{put_by}
 use Rattle.ep_model.specs.Quota.{pinned, blocks_if, standing_blocks, old_blocks, need, exceeds, stripe_is_full, is_overfull, is_short}
 use Rattle.ep_model.specs.Front.{begun, world_of, marked}
@@ -42,11 +40,11 @@ use Rattle.vb_front.specs.declared.wait.Waited.TheVariants as waits
 use Rattle.vb_front.specs.Stands.{IsShownValue, IsGone, IsAbsent, StripeStands, QueueStands}
 use Rattle.vb_front.specs.Priors.{PriorsStand}
 use Rattle.vb_front.specs.Waits.{has_no_room, prior_outcome, waited_for, waited, release, ask_step}
-use Rattle.vb_front.specs.Writes.{shown_world, seen_meta, shown_doc, text_at, is_away, row_of, Act, Stays, Write, lacks_room, write_refused, write_put, write_effect, write_over, write_crowded, write_waits, write_found, write_active, write_step, AnsweredHasRoom}
+use Rattle.vb_front.specs.Writes.{shown_world, seen_meta, shown_doc, text_at, is_away, row_of, Stays, Write, lacks_room, write_refused, write_put, write_effect, write_over, write_crowded, write_waits, write_found, write_active, write_step, AnsweredHasRoom}
 use Rattle.vb_front.proofs.AskLemmas.{and_left}
 use Rattle.vb_front.proofs.PinLemmas.{pinned_is}
 use Rattle.vb_front.proofs.KeptLemmas.{short_is_overfull}
-use Rattle.vb_front.proofs.ReadLemmas.{prior_shows, active_is}
+use Rattle.vb_front.proofs.ReadLemmas.{prior_shows}
 use Rattle.vb_front.proofs.RowEffectLemmas.{IsRowEffect, row_effect}
 use Rattle.vb_front.proofs.WriteLemmas.{written_keyed, fit_is, seen_answer, absent_answer, own_answer}
 

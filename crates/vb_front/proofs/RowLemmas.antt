@@ -11,7 +11,7 @@ use Rattle.ep_model.specs.declared.event.Ticket.{Ticket}
 use Rattle.ep_model.specs.Needs.{needs}
 use Rattle.ep_model.specs.World.{Doc, World, doc_from, next_doc, tombstone, stored_expiry}
 use Rattle.ep_model.specs.Refusals.{size_refusal, store_refusal, cas_refusal, wanted_refusal, join_refusal, number_refusal}
-use Rattle.ep_model.specs.Answer.{Answer, unless, refused, put_success, counts, joined, shown_flags, shown_value, shows, answer_join, answer_touch}
+use Rattle.ep_model.specs.Answer.{Answer, unless, put_success, counts, joined, shown_flags, shown_value, shows, answer_join, answer_touch}
 use Rattle.hash_stripe.specs.declared.found.Found.{Found}
 use Rattle.ckpt_manager.specs.declared.data.QueueData.{QueueData}
 use Rattle.vb_front.specs.declared.part.StripePart.{StripePart}

@@ -12,20 +12,20 @@ use Rattle.ep_model.specs.World.{Doc, World, live_of, stored_expiry}
 use Rattle.ep_model.specs.Calls.{written_key}
 use Rattle.ep_model.specs.Needs.{needs, own_refusal}
 use Rattle.ep_model.specs.Refusals.{state_refusal, store_refusal}
-use Rattle.ep_model.specs.Answer.{Answer, Effect, Nothing, Puts, Sets, unless, refused, cas_of, stores}
+use Rattle.ep_model.specs.Answer.{Answer, Effect, Nothing, Puts, Sets, unless, cas_of, stores}
 use Rattle.hash_stripe.specs.Nodes.{node_at, others_pinned}
 use Rattle.hash_stripe.specs.Stripes.{found}
 use Rattle.fetch_book.specs.declared.place.Outcome.{Outcome}
 use Rattle.fetch_book.specs.declared.place.Outcome.TheVariants as outcomes
-use Rattle.fetch_book.specs.Books.{BookData, is_full, next_ticket, asked}
+use Rattle.fetch_book.specs.Books.{is_full, next_ticket, asked}
 use Rattle.ckpt_manager.specs.declared.data.QueueData.{QueueData}
 use Rattle.vb_front.specs.declared.part.StripePart.{StripePart}
 use Rattle.vb_front.specs.declared.step.Step.TheVariants as steps
 use Rattle.vb_front.specs.declared.wait.Waited.TheVariants as waits
-use Rattle.vb_front.specs.Waits.{has_no_room, prior_outcome, waited_for, waited, release, ask_step, ask_book}
+use Rattle.vb_front.specs.Waits.{has_no_room, prior_outcome, waited_for, waited, release}
 use Rattle.vb_front.specs.Reads.{IsUnserved}
-use Rattle.vb_front.specs.Writes.{shown_world, seen_meta, shown_doc, text_at, is_away, row_of, Stays, Write, lacks_room, write_done, write_refused, write_put, write_effect, write_over, write_crowded, write_waits, write_found, write_active, write_step}
-use Rattle.vb_front.specs.WriteSteps.{LacksDoc, IsCrowded, IsServed, doc_for, LacksRoom, WriteComesTo, WriteFrees, WriteIsExact}
+use Rattle.vb_front.specs.Writes.{shown_world, seen_meta, shown_doc, text_at, is_away, row_of, Stays, Write, lacks_room, write_refused, write_put, write_effect, write_over, write_crowded, write_waits, write_active, write_step}
+use Rattle.vb_front.specs.WriteSteps.{LacksDoc, IsCrowded, IsServed, doc_for, WriteComesTo, WriteFrees, WriteIsExact}
 use Rattle.vb_front.proofs.AskLemmas.{and_left, and_right}
 use Rattle.vb_front.proofs.ReadLemmas.{active_is}
 use Rattle.vb_front.proofs.RowEffectLemmas.{IsRowEffect, row_effect}

@@ -1,11 +1,9 @@
 -- A call that may put a document, on parts that stand: its event is legal, and the parts that it leaves stand behind it.
-use Rattle.std.proofs.Common.{◌≡◌, ◌≢◌, ℕ, ◌+◌, ◌<◌, ◌≤◌, Bool, true, false, not, ◌||◌, cond, min, max, List, [], ◌∷◌, length, refl, sym, ap, subst, ◌∙◌, arith}
-use Rattle.std.specs.Prelude.{Option, Some, None, is_some, is_none, ◌==◌, ◌&&◌, nat_lt}
+use Rattle.std.proofs.Common.{◌≡◌, ◌≢◌, ℕ, ◌+◌, ◌<◌, ◌≤◌, Bool, true, false, ◌||◌, cond, min, List, [], length, refl, sym, ap, subst, ◌∙◌, arith}
+use Rattle.std.specs.Prelude.{Option, Some, None, is_some, ◌&&◌, nat_lt}
 use Rattle.std.specs.FinMap.{get}
 use Rattle.std.proofs.lemmas.List.{length-set}
 use Rattle.std.proofs.lemmas.Bool.Decides.{nat_tests}
-use Rattle.ep_model.specs.declared.call.Meta.{Meta}
-use Rattle.ep_model.specs.declared.call.Reply.{Reply}
 use Rattle.ep_model.specs.declared.call.VbState.{VbState}
 use Rattle.ep_model.specs.declared.call.VbState.TheVariants.{Active}
 use Rattle.ep_model.specs.declared.config.Eviction.{Eviction}
@@ -23,45 +21,42 @@ use Rattle.ep_model.specs.Limits.{IsKey, IsWithin}
 use Rattle.ep_model.specs.Stripes.{stripe_of}
 use Rattle.ep_model.specs.Calls.{key_of, has_key, written_key}
 use Rattle.ep_model.specs.Needs.{needs, own_refusal}
-use Rattle.ep_model.specs.Refusals.{state_refusal, size_refusal, store_refusal}
+use Rattle.ep_model.specs.Refusals.{state_refusal, store_refusal}
 use Rattle.ep_model.specs.Answer.{Answer, Effect, Nothing, Puts, Sets, unless, refused, cas_of, stores, answer_row, answer}
 use Rattle.ep_model.specs.Mutations.{put_by, mutation_of}
 use Rattle.ep_model.specs.Quota.{pinned, blocks_if, need, exceeds, is_overfull, is_short, stripe_is_full}
 use Rattle.ep_model.specs.Front.{begun, world_of, with_event, marked}
 use Rattle.ep_model.specs.Legal.{IsServing, IsUnused, Caused, MayCall, May, IsLegal}
-use Rattle.hold_stage.specs.Waits.{IsNoRead}
-use Rattle.hold_stage.proofs.ViewLemmas.{frame_after, or_true_left, or_true_right}
+use Rattle.hold_stage.proofs.ViewLemmas.{frame_after, or_true_left}
 use Rattle.hold_stage.proofs.LaterLemmas.{world_step}
 use Rattle.hold_stage.proofs.BoundLemmas.{marked_step}
-use Rattle.hash_stripe.specs.Nodes.{NodeData, Slot, at, node_at, slot_for, with_slot, placed, others_pinned, Restores, EjectsOthers}
+use Rattle.hash_stripe.specs.Nodes.{NodeData, Slot, node_at, slot_for, with_slot, Restores}
 use Rattle.hash_stripe.specs.Stripes.{StripeData, IsStripe, found, found_value}
-use Rattle.hash_stripe.specs.Laws.{IsRestored}
 use Rattle.hash_stripe.proofs.KeyLemmas.{restoring-keywise}
 use Rattle.fetch_book.specs.declared.place.Outcome.{Outcome}
 use Rattle.fetch_book.specs.declared.place.Outcome.TheVariants as outcomes
 use Rattle.fetch_book.specs.declared.place.Place.{Place}
 use Rattle.fetch_book.specs.Books.{BookData, is_full, next_ticket}
 use Rattle.ckpt_manager.specs.declared.data.QueueData.{QueueData}
-use Rattle.ckpt_manager.specs.Queue.{item_of, queued, kept_with, Expelled}
+use Rattle.ckpt_manager.specs.Queue.{item_of, kept_with}
 use Rattle.vb_front.specs.declared.part.StripePart.{StripePart}
 use Rattle.vb_front.specs.declared.step.Step.{Step}
 use Rattle.vb_front.specs.declared.step.Step.TheVariants as steps
-use Rattle.vb_front.specs.declared.wait.Waited.{Waited}
 use Rattle.vb_front.specs.declared.wait.Waited.TheVariants as waits
-use Rattle.vb_front.specs.Stands.{IsGone, TableShows, TableStands, BookStands, StripeStands, QueueStands, OutcomeShows}
+use Rattle.vb_front.specs.Stands.{TableStands, BookStands, StripeStands, QueueStands, OutcomeShows}
 use Rattle.vb_front.specs.Priors.{PriorsStand, is_prior, event_of, IsNext}
 use Rattle.vb_front.specs.Queues.{IsPutBy, PutsNothing}
-use Rattle.vb_front.specs.Waits.{Away, value_memory, slot_memory, memory_of, has_no_room, prior_outcome, waited_for, waited, release, ask_step, ask_book}
-use Rattle.vb_front.specs.Writes.{shown_world, seen_meta, shown_doc, text_at, is_away, row_of, Act, Stays, Clears, Places, Write, forget, write_done, write_refused, lacks_room, write_put, write_effect, write_answer, write_over, write_crowded, write_waits, write_found, write_active, write_step, node_of, LeavesSlots, Queues, Leaves, WriteIsLegal}
+use Rattle.vb_front.specs.Waits.{Away, value_memory, slot_memory, has_no_room, prior_outcome, waited_for, waited, release, ask_step, ask_book}
+use Rattle.vb_front.specs.Writes.{shown_world, seen_meta, shown_doc, text_at, is_away, row_of, Act, Stays, Write, forget, write_done, write_refused, lacks_room, write_put, write_effect, write_over, write_crowded, write_waits, write_active, write_step, node_of, LeavesSlots, Queues, Leaves, WriteIsLegal}
 use Rattle.vb_front.specs.Reads.{KeepsStripe}
 use Rattle.vb_front.proofs.AskLemmas.{and_left, and_right, ticket_same, other_ticket}
-use Rattle.vb_front.proofs.CalmLemmas.{IsCalm, calm_asked, queue_calm}
+use Rattle.vb_front.proofs.CalmLemmas.{calm_asked, queue_calm}
 use Rattle.vb_front.proofs.WaitLemmas.{IsLeftBy, with_released, done_behind, refused_behind, asks_behind, prior_waits, prior_failed}
 use Rattle.vb_front.proofs.PinLemmas.{pinned_is}
 use Rattle.vb_front.proofs.QueueLemmas.{call_puts, puts_world, queue_takes, queue_answers, queue_refuses, queue_expels, nothing_done}
 use Rattle.vb_front.proofs.KeptLemmas.{short_is_quota}
-use Rattle.vb_front.proofs.ReadLemmas.{prior_shows, takes_room, no_room_cause, active_is, absent_live}
-use Rattle.vb_front.proofs.PutLemmas.{IsPutting, IsWritten, table_put, book_put}
+use Rattle.vb_front.proofs.ReadLemmas.{prior_shows, no_room_cause, active_is, absent_live}
+use Rattle.vb_front.proofs.PutLemmas.{IsPutting, table_put, book_put}
 use Rattle.vb_front.proofs.EjectLemmas.{others_length, ejected_table}
 use Rattle.vb_front.proofs.SeenLemmas.{numbered, row_numbered, row_is, seen_row}
 use Rattle.vb_front.proofs.RowEffectLemmas.{IsPutOf, IsRowEffect, row_effect}

@@ -1,5 +1,5 @@
 -- What a call that may put a document comes to on its stripe and the queue, and what it leaves of them.
-use Rattle.std.specs.Prelude.{◌≡◌, ℕ, ◌+◌, ◌<◌, ◌≤◌, true, false, not, nat_lt, ◌==◌, ◌&&◌, ◌||◌, Bool, if◌then◌else◌, min, List, [], length, Option, Some, None, IfSome, IsSome}
+use Rattle.std.specs.Prelude.{◌≡◌, ℕ, ◌+◌, ◌≤◌, true, false, nat_lt, ◌&&◌, ◌||◌, Bool, if◌then◌else◌, min, List, [], length, Option, Some, None}
 use Rattle.std.specs.Option.{is_some}
 use Rattle.ep_model.specs.declared.call.Meta.{Meta}
 use Rattle.ep_model.specs.declared.call.Reply.{Reply}
@@ -12,11 +12,11 @@ use Rattle.ep_model.specs.declared.event.Ticket.{Ticket}
 use Rattle.ep_model.specs.declared.data.CallData.{CallData}
 use Rattle.ep_model.specs.declared.data.CallData.TheVariants.{Store, Join, Count, Delete, Touch}
 use Rattle.ep_model.specs.declared.data.FrontData.{FrontData}
-use Rattle.ep_model.specs.World.{Doc, World, empty_world, live_of, meta_of, doc_from, doc_blocks, blocks, stored_expiry, next_doc, tombstone}
+use Rattle.ep_model.specs.World.{Doc, World, empty_world, live_of, meta_of, doc_from, doc_blocks, blocks, stored_expiry, tombstone}
 use Rattle.ep_model.specs.Limits.{max_value}
 use Rattle.ep_model.specs.Needs.{needs, own_refusal}
 use Rattle.ep_model.specs.Refusals.{state_refusal, size_refusal, store_refusal, wanted_refusal}
-use Rattle.ep_model.specs.Answer.{Answer, Effect, Nothing, Puts, Sets, unless, refused, cas_of, puts, put_success, stores, answer_join, answer_count, answer_touch, answer_row}
+use Rattle.ep_model.specs.Answer.{Answer, Effect, Nothing, Puts, Sets, unless, refused, cas_of, puts, stores, answer_join, answer_count, answer_touch, answer_row}
 use Rattle.ep_model.specs.Quota.{is_short}
 use Rattle.ep_model.specs.Front.{world_of}
 use Rattle.ep_model.specs.Legal.{IsServing, IsLegal}
@@ -34,7 +34,7 @@ use Rattle.vb_front.specs.declared.step.Step.TheVariants as steps
 use Rattle.vb_front.specs.declared.wait.Waited.{Waited}
 use Rattle.vb_front.specs.declared.wait.Waited.TheVariants as waits
 use Rattle.vb_front.specs.Stands.{StripeStands, QueueStands}
-use Rattle.vb_front.specs.Priors.{key_in, PriorsStand, event_of, IsNext}
+use Rattle.vb_front.specs.Priors.{PriorsStand, event_of, IsNext}
 use Rattle.vb_front.specs.Waits.{has_no_room, waited, release, ask_step, ask_book}
 
 -- the numbers that an answer goes by, as the parts show them

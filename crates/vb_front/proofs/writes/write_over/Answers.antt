@@ -1,4 +1,4 @@
-use Rattle.std.proofs.Common.{◌≡◌, ap, sym, ◌∙◌}
+use Rattle.std.proofs.Common.{ap, sym, ◌∙◌}
 use Rattle.std.specs.Prelude.{Option}
 use Rattle.ep_model.specs.declared.call.Call.{Call}
 use Rattle.ep_model.specs.World.{Doc}

@@ -1,4 +1,4 @@
-use Rattle.std.proofs.Common.{◌≡◌, false, min, [], length, None, ap, sym, ◌∙◌, rules}
+use Rattle.std.proofs.Common.{◌≡◌, false, [], length, None, ap, sym, ◌∙◌, rules}
 use Rattle.std.specs.Option.{option_or}
 use Rattle.ep_model.specs.World.{next_doc}
 use Rattle.ep_model.specs.Refusals.{size_refusal, store_refusal, number_refusal}

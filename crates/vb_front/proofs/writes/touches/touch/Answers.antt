@@ -2,7 +2,7 @@ use Rattle.std.proofs.Common.{◌≡◌, ℕ, List, false, cond, [], length, Non
 use Rattle.std.specs.Prelude.{◌==◌}
 use Rattle.ep_model.specs.World.{doc_from, next_doc, stored_expiry}
 use Rattle.ep_model.specs.Refusals.{number_refusal}
-use Rattle.ep_model.specs.Answer.{Answer, put_success, answer_touch, shown_value, shown_flags}
+use Rattle.ep_model.specs.Answer.{Answer, put_success, answer_touch, shown_value}
 use Rattle.vb_front.specs.Writes.{shown_world, shown_doc, text_at, step_of, value_if, lacks_room, write_answer}
 use Rattle.vb_front.proofs.RowLemmas.{comes_as, touch_put, put_value}
 use Rattle.vb_front.proofs.writes.touches.touch.Goals as goal
