@@ -22,3 +22,4 @@ pub mod RowEffectLemmas
 pub mod WriteLemmas
 pub mod RoomLemmas
 pub mod WriteExactLemmas
+pub mod TryLemmas

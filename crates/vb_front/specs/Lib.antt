@@ -12,3 +12,4 @@ pub mod Desks
 pub mod Laws
 pub mod Queues
 pub mod Batches
+pub mod Tries

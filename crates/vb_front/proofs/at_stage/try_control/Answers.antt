@@ -1,0 +1,33 @@
+use Rattle.std.proofs.Common.{subst, ◌∙◌}
+use Rattle.std.specs.Prelude.{None}
+use Rattle.ep_model.specs.declared.event.PartName.TheVariants.{Queue}
+use Rattle.ep_model.specs.History.{call_data}
+use Rattle.hold_stage.specs.Went.{Went}
+use Rattle.hold_stage.proofs.OwnLemmas.{taken_held, taken_among}
+use Rattle.vb_front.specs.Priors.{event_of}
+use Rattle.vb_front.specs.Controls.{control_step}
+use Rattle.vb_front.proofs.TryLemmas.{controlled_may, controlled_stands, went_given}
+use Rattle.vb_front.proofs.at_stage.try_control.Goals as goal
+
+pub note_step-requires-clause-may : goal.note_step-requires-clause-may
+note_step-requires-clause-may g c =
+    let t = c.take_queue in let s = c.args.stage.now in let r = c.control-step in let call = call_data c.args.call.now in
+    controlled_may (g.S.Stage.front t.new.stage) (g.S.Stage.holds t.new.stage) (g.S.Stage.number t.new.stage) (g.S.Stage.is_desk t.new.stage) c.args.vb call c.args.now c.in-Ok.queue r.new.queue r.result c.bytes.result.now
+    (control_step c.in-Ok.queue c.args.vb call) (taken_held Queue (g.S.Stage.holds s) (g.S.Stage.holds t.new.stage) c.in-Ok.ensures.held) c.in-Ok.ensures.taken.0 (t.ensures.grown.id ∙ c.requires.id)
+    r.ensures.legal r.ensures.step r.ensures.queue (c.bytes.ensures ∙ r.ensures.value) t.ensures.legal
+
+pub give-requires-clause-stands : goal.give-requires-clause-stands
+give-requires-clause-stands g c =
+    let t = c.take_queue in let s = c.args.stage.now in let r = c.control-step in let call = call_data c.args.call.now in
+    controlled_stands (g.S.Stage.front t.new.stage) (g.S.Stage.holds t.new.stage) (g.S.Stage.number t.new.stage) (g.S.Stage.is_desk t.new.stage) c.args.vb call c.args.now c.in-Ok.queue r.new.queue r.result c.bytes.result.now
+    (control_step c.in-Ok.queue c.args.vb call) (taken_held Queue (g.S.Stage.holds s) (g.S.Stage.holds t.new.stage) c.in-Ok.ensures.held) c.in-Ok.ensures.taken.0 (t.ensures.grown.id ∙ c.requires.id)
+    r.ensures.legal r.ensures.step r.ensures.queue (c.bytes.ensures ∙ r.ensures.value)
+    (g.S.Stage.front c.note_step.new.stage) c.note_step.ensures.went
+
+pub returns-clause-went : goal.returns-clause-went
+returns-clause-went g c =
+    let t = c.take_queue in let s = c.args.stage.now in let call = call_data c.args.call.now in
+    subst (λ v. Went (g.S.Stage.front s) (g.S.Stage.front c.give.new.self) (g.S.Stage.holds s) (g.S.Stage.number s) (g.S.Stage.is_desk s) (event_of (g.S.Stage.number s) call c.args.now None c.control-step.result v)) c.bytes.ensures
+    (went_given (λ n. event_of n call c.args.now None c.control-step.result c.bytes.result.now) (g.S.Stage.front s) (g.S.Stage.front t.new.stage) (g.S.Stage.front c.note_step.new.stage) (g.S.Stage.front c.give.new.self) (g.S.Stage.holds s) (g.S.Stage.holds t.new.stage)
+    (g.S.Stage.number s) (g.S.Stage.number t.new.stage) (g.S.Stage.is_desk s) (g.S.Stage.is_desk t.new.stage) t.ensures.grown (taken_among Queue (g.S.Stage.holds s) (g.S.Stage.holds t.new.stage) c.in-Ok.ensures.held)
+    t.ensures.stays.number t.ensures.stays.desk c.note_step.ensures.went c.give.ensures.front)

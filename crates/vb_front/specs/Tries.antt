@@ -1,0 +1,213 @@
+-- What a call at a stage came to, what is noted of it, and what that leaves.
+use Rattle.std.specs.Prelude.{◌≡◌, ℕ, ◌+◌, ◌≤◌, Bool, true, false, List, ◌∷◌, ◌++◌, [], Option, Some, None, Result, Ok, Err, IfOk, IfErr, MatchResult}
+use Rattle.std.specs.Option.{option_map}
+use Rattle.ep_model.specs.declared.config.Config.{Config}
+use Rattle.ep_model.specs.declared.event.Busy.{Busy}
+use Rattle.ep_model.specs.declared.event.PartName.{PartName}
+use Rattle.ep_model.specs.declared.event.PartName.TheVariants as names
+use Rattle.ep_model.specs.declared.event.Ticket.{Ticket}
+use Rattle.ep_model.specs.declared.data.CallData.{CallData}
+use Rattle.ep_model.specs.declared.data.CallData.TheVariants as calls
+use Rattle.ep_model.specs.declared.data.EventData.{EventData}
+use Rattle.ep_model.specs.declared.data.FrontData.{FrontData}
+use Rattle.ep_model.specs.Limits.{max_value, event_bytes}
+use Rattle.ep_model.specs.Calls.{has_key}
+use Rattle.ep_model.specs.Counts.{Rose}
+use Rattle.ep_model.specs.Legal.{IsLegal}
+use Rattle.ep_model.specs.Answer.{bare_reply}
+use Rattle.ep_model.specs.Statuses.{status_of}
+use Rattle.ep_model.specs.Stripes.{stripe_of}
+use Rattle.hold_stage.specs.Touches.{there, touches_call}
+use Rattle.hold_stage.specs.Grows.{Among, Grown}
+use Rattle.hold_stage.specs.Went.{with_noted, Went, LeavesRoom}
+use Rattle.ep_edge.specs.declared.gate.Point.{Point}
+use Rattle.ep_edge.specs.declared.gate.Point.TheVariants.{InStripe, Answered}
+use Rattle.ckpt_manager.specs.declared.data.QueueData.{QueueData}
+use Rattle.vb_front.specs.declared.part.StripePart.{StripePart}
+use Rattle.vb_front.specs.declared.part.Part.{Part}
+use Rattle.vb_front.specs.declared.part.Part.TheVariants as parts
+use Rattle.vb_front.specs.declared.step.Step.{Step}
+use Rattle.vb_front.specs.declared.step.Step.TheVariants as steps
+use Rattle.vb_front.specs.declared.at_stage.Kind.{Kind}
+use Rattle.vb_front.specs.declared.at_stage.Kind.TheVariants as kinds
+use Rattle.vb_front.specs.declared.at_stage.Tried.{Tried}
+use Rattle.vb_front.specs.declared.at_stage.Tried.TheVariants as tries
+use Rattle.vb_front.specs.Stands.{StripeStands, QueueStands}
+use Rattle.vb_front.specs.Priors.{key_in, event_of}
+use Rattle.vb_front.specs.Reads.{read_step, ReadIsExact}
+use Rattle.vb_front.specs.Controls.{control_step}
+use Rattle.vb_front.specs.Writes.{write_step, Leaves}
+
+-- room for the key and the value of a call, and for the value of its answer
+abbrev pub call_bytes : ℕ
+call_bytes = event_bytes + max_value
+
+-- there is room for an event of at most so many bytes
+abbrev pub HasRoom : ℕ → (ℕ → ℕ → Type 0) → Type 0
+HasRoom most covers = (n b : ℕ) → n ≤ 1 → b ≤ most → covers n b
+
+-- of the parts that a vBucket has, all but those that may be touched are as they were
+abbrev pub KeptBut : {P : Type 0} → Config → (PartName → Bool) → (PartName → Option P) → (PartName → Option P) → Type 0
+KeptBut config touched old new = (p : PartName) → there config p ≡ true → touched p ≡ false → new p ≡ old p
+
+-- the event of what a call came to, and none where it found a part taken
+abbrev pub event_by : ℕ → CallData → ℕ → Option Ticket → List ℕ → Result Step Busy → Option EventData
+event_by caller call now prior value (Ok step) = event_of caller call now prior step value
+event_by caller call now prior value (Err busy) = None
+
+-- a point more was passed
+abbrev pub with_point : Point → Option (List Point) → Option (List Point)
+with_point point passed = option_map (λ points. points ++ point ∷ []) passed
+
+-- the points that were passed on the way to what a call on a key of this stripe came to
+abbrev pub passed_by : ℕ → Result Step Busy → Option (List Point) → Option (List Point)
+passed_by stripe (Ok step) passed = with_point (InStripe stripe) passed
+passed_by stripe (Err busy) passed = passed
+
+-- A Get came to what it comes to on the stripe as it was taken, which stood for all that was noted by then.
+pub record Gets (f : FrontData) (held : PartName → Bool) (caller : ℕ) (desk : Bool) (stripe : ℕ) (prior : Option Ticket) (key : List ℕ) (now : ℕ) (value : List ℕ) (step : Step) : Type 0 where
+  pub at : FrontData
+  pub grown : Grown f at held caller desk
+  pub legal : IsLegal at
+  pub part : StripePart
+  pub stands : StripeStands at stripe part
+  pub step_is : step ≡ (read_step part prior key now).step
+  pub value_is : value ≡ (read_step part prior key now).value
+  pub exact : ReadIsExact part key prior (read_step part prior key now)
+
+-- where it is known what the stripe was, that is what it comes to and leaves on this one
+pub record GetsFrom (old new : Option Part) (prior : Option Ticket) (key : List ℕ) (now : ℕ) (value : List ℕ) (step : Step) : Type 0 where
+  pub part : StripePart
+  pub before : old ≡ Some (parts.Stripe part)
+  pub step_is : step ≡ (read_step part prior key now).step
+  pub value_is : value ≡ (read_step part prior key now).value
+  pub behind : new ≡ Some (parts.Stripe (read_step part prior key now).part)
+
+-- A part was not at home, and all parts that the vBucket has are where they were.
+pub record IsOut (config : Config) (part : PartName) (old new : PartName → Option Part) : Type 0 where
+  pub out : old part ≡ None
+  pub same : (p : PartName) → there config p ≡ true → new p ≡ old p
+
+-- Somebody else had a part, which a stage found on its way: when it held what it had held, and maybe more, and others may
+-- have noted something.
+pub record WasElsewhere {A : Type 0} (front : A → FrontData) (holds : A → PartName → Bool) (number : A → ℕ) (is_desk : A → Bool) (is_elsewhere : A → PartName → Type 0) (old : A) (part : PartName) : Type 0 where
+  pub at : A
+  pub grown : Grown (front old) (front at) (holds old) (number old) (is_desk old)
+  pub among : Among (holds old) (holds at)
+  pub elsewhere : is_elsewhere at part
+
+-- A call on the vBucket as a whole came to what it comes to on the queue as it was taken.
+pub record Controls (f : FrontData) (held : PartName → Bool) (caller : ℕ) (desk : Bool) (id : ℕ) (call : CallData) (value : List ℕ) (step : Step) : Type 0 where
+  pub at : FrontData
+  pub grown : Grown f at held caller desk
+  pub legal : IsLegal at
+  pub queue : QueueData
+  pub stands : QueueStands at queue
+  pub step_is : step ≡ (control_step queue id call).step
+  pub value_is : value ≡ (control_step queue id call).value
+
+pub record ControlsFrom (old new : Option Part) (id : ℕ) (call : CallData) (value : List ℕ) (step : Step) : Type 0 where
+  pub queue : QueueData
+  pub before : old ≡ Some (parts.Queue queue)
+  pub step_is : step ≡ (control_step queue id call).step
+  pub value_is : value ≡ (control_step queue id call).value
+  pub behind : new ≡ Some (parts.Queue queue)
+
+-- A call that may put a document came to what it comes to on the stripe and the queue as they were taken.
+pub record Writes (f : FrontData) (held : PartName → Bool) (caller : ℕ) (desk : Bool) (stripe : ℕ) (prior : Option Ticket) (call : CallData) (now : ℕ) (value : List ℕ) (step : Step) : Type 0 where
+  pub at : FrontData
+  pub grown : Grown f at held caller desk
+  pub legal : IsLegal at
+  pub part : StripePart
+  pub queue : QueueData
+  pub stands : StripeStands at stripe part
+  pub queued : QueueStands at queue
+  pub step_is : step ≡ (write_step part queue prior call (key_in call) now).step
+  pub value_is : value ≡ (write_step part queue prior call (key_in call) now).value
+
+pub record WritesFrom (old new queue_old queue_new : Option Part) (prior : Option Ticket) (call : CallData) (now : ℕ) (value : List ℕ) (step : Step) : Type 0 where
+  pub part : StripePart
+  pub queue : QueueData
+  pub before : old ≡ Some (parts.Stripe part)
+  pub queued : queue_old ≡ Some (parts.Queue queue)
+  pub step_is : step ≡ (write_step part queue prior call (key_in call) now).step
+  pub value_is : value ≡ (write_step part queue prior call (key_in call) now).value
+  pub after : StripePart
+  pub later : QueueData
+  pub left : Leaves part queue (write_step part queue prior call (key_in call) now) after later
+  pub behind : new ≡ Some (parts.Stripe after)
+  pub queues : queue_new ≡ Some (parts.Queue later)
+
+abbrev pub kind_of : CallData → Kind
+kind_of (calls.Get key) = kinds.Read
+kind_of (calls.Store kind key value flags expiration cas) = kinds.Write
+kind_of (calls.Join front key value cas) = kinds.Write
+kind_of (calls.Count down key delta initial expiration cas) = kinds.Write
+kind_of (calls.Delete key cas) = kinds.Write
+kind_of (calls.Touch key expiration fetch) = kinds.Write
+kind_of (calls.Observe uuid) = kinds.Control
+kind_of calls.Failovers = kinds.Control
+kind_of (calls.SetState state) = kinds.Change
+kind_of calls.GetState = kinds.Control
+
+-- a refusal is answered by its status
+abbrev pub tried_of : ℕ → Step → Tried
+tried_of stripe (steps.Done reply) = tries.Done reply
+tried_of stripe (steps.Refused cause) = tries.Done (bare_reply (status_of cause))
+tried_of stripe (steps.Fetch ticket) = tries.Fetch ticket
+tried_of stripe steps.FetchFull = tries.FetchFull stripe
+
+abbrev pub tried_by : ℕ → Result Step Busy → Tried
+tried_by stripe (Ok step) = tried_of stripe step
+tried_by stripe (Err busy) = tries.Busy busy
+
+-- one point more is passed where it was answered
+abbrev pub answered_on : ℕ → Tried → Option (List Point) → Option (List Point)
+answered_on stripe (tries.Done reply) passed = with_point (Answered stripe) passed
+answered_on stripe (tries.Busy busy) passed = passed
+answered_on stripe (tries.Fetch ticket) passed = passed
+answered_on stripe (tries.FetchFull full) passed = passed
+
+-- the points that a call passes, by its key's stripe where it has a key
+abbrev pub passed_on : Bool → ℕ → Tried → Option (List Point) → Option (List Point)
+passed_on false stripe tried passed = passed
+passed_on true stripe (tries.Done reply) passed = with_point (Answered stripe) (with_point (InStripe stripe) passed)
+passed_on true stripe (tries.Busy busy) passed = passed
+passed_on true stripe (tries.Fetch ticket) passed = with_point (InStripe stripe) passed
+passed_on true stripe (tries.FetchFull full) passed = with_point (InStripe stripe) passed
+
+-- what a call of this kind came to on its parts as they were taken
+abbrev pub Comes : Kind → FrontData → (PartName → Bool) → ℕ → Bool → ℕ → Option Ticket → CallData → ℕ → List ℕ → Step → Type 0
+Comes kinds.Read f held caller desk stripe prior call now value step = Gets f held caller desk stripe prior (key_in call) now value step
+Comes kinds.Write f held caller desk stripe prior call now value step = Writes f held caller desk stripe prior call now value step
+Comes kinds.Control f held caller desk stripe prior call now value step = Controls f held caller desk f.id call value step
+Comes kinds.Change f held caller desk stripe prior call now value step = ⊥
+
+-- and where it is known what these were, what it came to and left
+abbrev pub ComesFrom : Kind → ℕ → ℕ → (PartName → Option Part) → (PartName → Option Part) → Option Ticket → CallData → ℕ → List ℕ → Step → Type 0
+ComesFrom kinds.Read id stripe old new prior call now value step = GetsFrom (old (names.Stripe stripe)) (new (names.Stripe stripe)) prior (key_in call) now value step
+ComesFrom kinds.Write id stripe old new prior call now value step = WritesFrom (old (names.Stripe stripe)) (new (names.Stripe stripe)) (old names.Queue) (new names.Queue) prior call now value step
+ComesFrom kinds.Control id stripe old new prior call now value step = ControlsFrom (old names.Queue) (new names.Queue) id call value step
+ComesFrom kinds.Change id stripe old new prior call now value step = ⊥
+
+-- What is true of a call that was tried at a stage.
+-- `came`, `stripe`, `here`, `is`: what it came to, on a key of this stripe where it has a key, is what is answered;
+-- `went`, `room`: others' events and then its own, once and last, or none, were noted, and the room that this leaves;
+-- `found`, `elsewhere`: it is busy only where it found a part taken that it touches, which somebody else had;
+-- `comes`: what it came to is what its parts and its rules say, whatever others noted before these were taken;
+-- `alone`, `becomes`, `kept`: while nobody else notes anything, the history has its event more; its parts are left as it leaves
+-- them, and where one wasn't at home all are as they were; the other parts are as they were.
+pub record Tries {A : Type 0} (front : A → FrontData) (holds : A → PartName → Bool) (number : A → ℕ) (is_desk is_telling : A → Bool) (covers : A → ℕ → ℕ → Type 0) (losses : A → ℕ) (is_elsewhere : A → PartName → Type 0)
+    (tells : A → PartName → Option Part) (old new : A) (prior : Option Ticket) (call : CallData) (now : ℕ) (value : List ℕ) (tried : Tried) : Type 0 where
+  pub came : Result Step Busy
+  pub stripe : ℕ
+  pub here : has_key call ≡ true → stripe ≡ stripe_of (key_in call) (front old).config.stripes
+  pub is : tried ≡ tried_by stripe came
+  pub went : Went (front old) (front new) (holds old) (number old) (is_desk old) (event_by (number old) call now prior value came)
+  pub room : LeavesRoom (covers old) (covers new) (event_by (number old) call now prior value came)
+  pub found : MatchResult came (λ _. losses new ≡ losses old) (λ b. (touches_call (front old).config call b.part ≡ true) × Rose (losses old) (losses new))
+  pub elsewhere : IfErr came (λ b. WasElsewhere front holds number is_desk is_elsewhere old b.part)
+  pub comes : IfOk came (Comes (kind_of call) (front old) (holds old) (number old) (is_desk old) stripe prior call now value)
+  pub alone : is_telling old ≡ true → front new ≡ with_noted (front old) (event_by (number old) call now prior value came)
+  pub becomes : is_telling old ≡ true → MatchResult came (ComesFrom (kind_of call) (front old).id stripe (tells old) (tells new) prior call now value) (λ b. IsOut (front old).config b.part (tells old) (tells new))
+  pub kept : is_telling old ≡ true → KeptBut (front old).config (touches_call (front old).config call) (tells old) (tells new)
