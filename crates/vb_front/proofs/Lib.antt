@@ -23,3 +23,4 @@ pub mod WriteLemmas
 pub mod RoomLemmas
 pub mod WriteExactLemmas
 pub mod TryLemmas
+pub mod BareLemmas

@@ -1,5 +1,5 @@
 -- What a call at a stage came to, what is noted of it, and what that leaves.
-use Rattle.std.specs.Prelude.{◌≡◌, ℕ, ◌+◌, ◌≤◌, Bool, true, false, List, ◌∷◌, ◌++◌, [], Option, Some, None, Result, Ok, Err, IfOk, IfErr, MatchResult}
+use Rattle.std.specs.Prelude.{◌≡◌, ℕ, ◌+◌, ◌≤◌, Bool, true, false, List, ◌∷◌, ◌++◌, [], length, Option, Some, None, Result, Ok, Err, IfOk, IfErr, MatchResult}
 use Rattle.std.specs.Option.{option_map}
 use Rattle.ep_model.specs.declared.config.Config.{Config}
 use Rattle.ep_model.specs.declared.event.Busy.{Busy}
@@ -54,6 +54,13 @@ KeptBut config touched old new = (p : PartName) → there config p ≡ true → 
 abbrev pub event_by : ℕ → CallData → ℕ → Option Ticket → List ℕ → Result Step Busy → Option EventData
 event_by caller call now prior value (Ok step) = event_of caller call now prior step value
 event_by caller call now prior value (Err busy) = None
+
+-- only an answer has a value
+abbrev pub IsValueOf : Step → List ℕ → Type 0
+IsValueOf (steps.Done reply) value = Unit {0}
+IsValueOf (steps.Refused cause) value = value ≡ []
+IsValueOf (steps.Fetch ticket) value = value ≡ []
+IsValueOf steps.FetchFull value = value ≡ []
 
 -- a point more was passed
 abbrev pub with_point : Point → Option (List Point) → Option (List Point)
@@ -161,6 +168,13 @@ abbrev pub tried_by : ℕ → Result Step Busy → Tried
 tried_by stripe (Ok step) = tried_of stripe step
 tried_by stripe (Err busy) = tries.Busy busy
 
+-- something is so where a part was found taken
+abbrev pub IfBusy : Tried → Type 0 → Type 0
+IfBusy (tries.Done reply) t = Unit {0}
+IfBusy (tries.Busy busy) t = t
+IfBusy (tries.Fetch ticket) t = Unit {0}
+IfBusy (tries.FetchFull full) t = Unit {0}
+
 -- one point more is passed where it was answered
 abbrev pub answered_on : ℕ → Tried → Option (List Point) → Option (List Point)
 answered_on stripe (tries.Done reply) passed = with_point (Answered stripe) passed
@@ -195,6 +209,7 @@ ComesFrom kinds.Change id stripe old new prior call now value step = ⊥
 -- `went`, `room`: others' events and then its own, once and last, or none, were noted, and the room that this leaves;
 -- `found`, `elsewhere`: it is busy only where it found a part taken that it touches, which somebody else had;
 -- `comes`: what it came to is what its parts and its rules say, whatever others noted before these were taken;
+-- `bare`, `short`: its value is empty unless it is answered, and within the limit;
 -- `alone`, `becomes`, `kept`: while nobody else notes anything, the history has its event more; its parts are left as it leaves
 -- them, and where one wasn't at home all are as they were; the other parts are as they were.
 pub record Tries {A : Type 0} (front : A → FrontData) (holds : A → PartName → Bool) (number : A → ℕ) (is_desk is_telling : A → Bool) (covers : A → ℕ → ℕ → Type 0) (losses : A → ℕ) (is_elsewhere : A → PartName → Type 0)
@@ -208,6 +223,8 @@ pub record Tries {A : Type 0} (front : A → FrontData) (holds : A → PartName 
   pub found : MatchResult came (λ _. losses new ≡ losses old) (λ b. (touches_call (front old).config call b.part ≡ true) × Rose (losses old) (losses new))
   pub elsewhere : IfErr came (λ b. WasElsewhere front holds number is_desk is_elsewhere old b.part)
   pub comes : IfOk came (Comes (kind_of call) (front old) (holds old) (number old) (is_desk old) stripe prior call now value)
+  pub bare : IfOk came (λ step. IsValueOf step value)
+  pub short : IfOk came (λ _. length value ≤ max_value)
   pub alone : is_telling old ≡ true → front new ≡ with_noted (front old) (event_by (number old) call now prior value came)
   pub becomes : is_telling old ≡ true → MatchResult came (ComesFrom (kind_of call) (front old).id stripe (tells old) (tells new) prior call now value) (λ b. IsOut (front old).config b.part (tells old) (tells new))
   pub kept : is_telling old ≡ true → KeptBut (front old).config (touches_call (front old).config call) (tells old) (tells new)

@@ -16,7 +16,7 @@ ghost use Rattle.hold_stage.specs.Went.{with_noted, Went, LeavesRoom};
 ghost use Rattle.vb_front.specs.Controls.{is_control};
 ghost use Rattle.vb_front.specs.Priors.{key_in, PriorsStand, is_prior, event_of};
 ghost use Rattle.vb_front.specs.Tries.{call_bytes, HasRoom, KeptBut, event_by, passed_by, Gets, GetsFrom, IsOut};
-ghost use Rattle.vb_front.specs.Tries.{Controls, ControlsFrom, Writes, WritesFrom, WasElsewhere};
+ghost use Rattle.vb_front.specs.Tries.{Controls, ControlsFrom, Writes, WritesFrom, WasElsewhere, IsValueOf, IfBusy};
 ghost use Rattle.vb_front.specs.Tries.{kind_of, tried_by, answered_on, passed_on, Tries};
 ghost use Rattle.vb_front.specs.declared.at_stage.Kind.TheVariants.{Change};
 
@@ -219,6 +219,7 @@ pub(crate) fn try_get<S: Stage<Part = Part>, G: Gate>(
         (λ b. IsOut (S.front stage.old).config b.part (S.tells stage.old) (S.tells stage.new)) }
     ensures kept { S.is_telling stage.old ≡ true → KeptBut (S.front stage.old).config (is_stripe stripe) (S.tells stage.old)
         (S.tells stage.new) }
+    ensures bare { IfOk result (λ step. IsValueOf step value.new.bytes) }
     ensures short { IfOk result (λ _. length value.new.bytes ≤ max_value) }
     ensures same { IfErr result (λ _. value.new ≡ value.old) }
     ensures spare { value.new.spare + length value.new.bytes ≡ value.old.spare + length value.old.bytes }
@@ -265,6 +266,7 @@ pub(crate) fn try_control<S: Stage<Part = Part>>(
         (λ b. IsOut (S.front stage.old).config b.part (S.tells stage.old) (S.tells stage.new)) }
     ensures kept { S.is_telling stage.old ≡ true → KeptBut (S.front stage.old).config is_queue (S.tells stage.old)
         (S.tells stage.new) }
+    ensures bare { IfOk result (λ step. IsValueOf step value.new.bytes) }
     ensures short { IfOk result (λ _. length value.new.bytes ≤ max_value) }
     ensures same { IfErr result (λ _. value.new ≡ value.old) }
     ensures spare { value.new.spare + length value.new.bytes ≡ value.old.spare + length value.old.bytes }
@@ -320,6 +322,7 @@ pub(crate) fn try_write<S: Stage<Part = Part>, G: Gate>(
         (λ b. IsOut (S.front stage.old).config b.part (S.tells stage.old) (S.tells stage.new)) }
     ensures kept { S.is_telling stage.old ≡ true → KeptBut (S.front stage.old).config (λ p. is_stripe stripe p || is_queue p)
         (S.tells stage.old) (S.tells stage.new) }
+    ensures bare { IfOk result (λ step. IsValueOf step value.new.bytes) }
     ensures short { IfOk result (λ _. length value.new.bytes ≤ max_value) }
     ensures same { IfErr result (λ _. value.new ≡ value.old) }
     ensures spare { value.new.spare + length value.new.bytes ≡ value.old.spare + length value.old.bytes }
@@ -373,6 +376,7 @@ pub fn try_call<S: Stage<Part = Part>, G: Gate>(
         prior (call_data call.now) now value.new.bytes result }
     ensures passed { G.passed gate.new ≡ passed_on (has_key (call_data call.now))
         (stripe_of (key_in (call_data call.now)) config.now.stripes) result (G.passed gate.old) }
+    ensures same { IfBusy result (value.new ≡ value.old) }
     ensures spare { value.new.spare + length value.new.bytes ≡ value.old.spare + length value.old.bytes }
 {
     match kind_of(call) {

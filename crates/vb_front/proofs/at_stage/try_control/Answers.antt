@@ -6,6 +6,7 @@ use Rattle.hold_stage.specs.Went.{Went}
 use Rattle.hold_stage.proofs.OwnLemmas.{taken_held, taken_among}
 use Rattle.vb_front.specs.Priors.{event_of}
 use Rattle.vb_front.specs.Controls.{control_step}
+use Rattle.vb_front.proofs.BareLemmas.{control_bare}
 use Rattle.vb_front.proofs.TryLemmas.{controlled_may, controlled_stands, went_given}
 use Rattle.vb_front.proofs.at_stage.try_control.Goals as goal
 
@@ -31,3 +32,8 @@ returns-clause-went g c =
     (went_given (λ n. event_of n call c.args.now None c.control-step.result c.bytes.result.now) (g.S.Stage.front s) (g.S.Stage.front t.new.stage) (g.S.Stage.front c.note_step.new.stage) (g.S.Stage.front c.give.new.self) (g.S.Stage.holds s) (g.S.Stage.holds t.new.stage)
     (g.S.Stage.number s) (g.S.Stage.number t.new.stage) (g.S.Stage.is_desk s) (g.S.Stage.is_desk t.new.stage) t.ensures.grown (taken_among Queue (g.S.Stage.holds s) (g.S.Stage.holds t.new.stage) c.in-Ok.ensures.held)
     t.ensures.stays.number t.ensures.stays.desk c.note_step.ensures.went c.give.ensures.front)
+
+pub returns-clause-bare : goal.returns-clause-bare
+returns-clause-bare g c =
+    let r = c.control-step in
+    control_bare c.in-Ok.queue c.args.vb (call_data c.args.call.now) r.result r.new.value.bytes r.ensures.step r.ensures.value

@@ -9,6 +9,7 @@ use Rattle.hold_stage.proofs.OwnLemmas.{taken_held, taken_among}
 use Rattle.vb_front.specs.declared.part.Part.TheVariants as parts
 use Rattle.vb_front.specs.Priors.{key_in, event_of}
 use Rattle.vb_front.specs.Reads.{read_step}
+use Rattle.vb_front.proofs.BareLemmas.{read_bare}
 use Rattle.vb_front.proofs.TryLemmas.{got_may, got_stands, priors_taken, went_given}
 use Rattle.vb_front.proofs.at_stage.try_get.Goals as goal
 
@@ -51,3 +52,8 @@ returns-clause-becomes g c = λ told.
       value_is = r.ensures.value;
       behind = behind ∙ ap (λ b. cond b (Some (parts.Stripe r.new.part)) (g.S.Stage.tells c.note_step.new.stage (Stripe c.args.stripe))) (same_is c.args.stripe) ∙ ap (λ x. Some (parts.Stripe x)) r.ensures.part;
     }
+
+pub returns-clause-bare : goal.returns-clause-bare
+returns-clause-bare g c =
+    let r = c.read-step in
+    read_bare c.in-Ok.part c.args.prior (key_in (call_data c.args.call.now)) c.args.now r.result r.new.value.bytes r.ensures.step r.ensures.value

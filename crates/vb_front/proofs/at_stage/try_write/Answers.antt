@@ -12,6 +12,7 @@ use Rattle.vb_front.specs.declared.part.Part.TheVariants as parts
 use Rattle.vb_front.specs.Stands.{StripeStands}
 use Rattle.vb_front.specs.Priors.{key_in, event_of}
 use Rattle.vb_front.specs.Writes.{write_step}
+use Rattle.vb_front.proofs.BareLemmas.{write_bare}
 use Rattle.vb_front.proofs.TryLemmas.{wrote_may, wrote_stands, priors_taken, grown_twice, went_given}
 use Rattle.vb_front.proofs.at_stage.try_write.Goals as goal
 
@@ -114,3 +115,8 @@ returns-clause-becomes g c = λ told.
       behind = c.give-3.ensures.tells giving (Stripe c.args.stripe) there ∙ ap (λ b. cond b (Some (parts.Stripe r.new.part)) (g.S.Stage.tells c.give-2.new.self (Stripe c.args.stripe))) (same_is c.args.stripe);
       queues = c.give-3.ensures.tells giving Queue refl ∙ c.give-2.ensures.tells noting Queue refl;
     }
+
+pub returns-clause-bare : goal.returns-clause-bare
+returns-clause-bare g c =
+    let r = c.write-step in
+    write_bare c.in-Ok.part c.in-Ok-take_queue.queue c.args.prior (call_data c.args.call.now) (key_in (call_data c.args.call.now)) c.args.now r.result r.new.value.bytes r.ensures.step r.ensures.value
