@@ -152,7 +152,8 @@ fn note_step<S: Stage<Part = Part>>(
     ensures losses { S.losses stage.new ≡ S.losses stage.old }
     ensures alone { S.is_telling stage.old ≡ true → S.front stage.new ≡ with_noted (S.front stage.old)
         (event_of (S.number stage.old) (call_data call.now) now prior step value.now) }
-    ensures tells { S.is_telling stage.old ≡ true → (p : PartName) → S.tells stage.new p ≡ S.tells stage.old p }
+    ensures tells { S.is_telling stage.old ≡ true → (p : PartName) → S.tells stage.new p
+        ≡ S.tells stage.old p }
 {
     let caller = stage.caller();
     match step {
@@ -194,11 +195,13 @@ pub(crate) fn try_get<S: Stage<Part = Part>, G: Gate>(
 ) -> Result<Step, Busy>
     requires get { call_data call.now ≡ Get (key_in (call_data call.now)) }
     requires key { IsKey (key_in (call_data call.now)) }
-    requires stripe { stripe ≡ stripe_of (key_in (call_data call.now)) (S.front stage.old).config.stripes }
+    requires stripe { stripe ≡ stripe_of (key_in (call_data call.now))
+        (S.front stage.old).config.stripes }
     requires there { there (S.front stage.old).config (Stripe stripe) ≡ true }
     requires free { S.holds stage.old (Stripe stripe) ≡ false }
     requires room { HasRoom call_bytes (S.covers stage.old) }
-    requires prior { PriorsStand (S.front stage.old) (S.number stage.old) (call_data call.now) prior }
+    requires prior { PriorsStand (S.front stage.old) (S.number stage.old) (call_data call.now)
+        prior }
     requires value { max_value ≤ value.old.spare + length value.old.bytes }
     ensures stays { Stays S.lent S.fixed S.number S.is_desk S.is_telling stage.old stage.new }
     ensures went { Went (S.front stage.old) (S.front stage.new) (S.holds stage.old) (S.number stage.old) (S.is_desk stage.old)
@@ -208,7 +211,8 @@ pub(crate) fn try_get<S: Stage<Part = Part>, G: Gate>(
     ensures held { Same (S.holds stage.new) (S.holds stage.old) }
     ensures found { MatchResult result (λ _. S.losses stage.new ≡ S.losses stage.old)
         (λ b. (b.part ≡ Stripe stripe) × Rose (S.losses stage.old) (S.losses stage.new)) }
-    ensures elsewhere { IfErr result (λ b. WasElsewhere S.front S.holds S.number S.is_desk S.elsewhere stage.old b.part) }
+    ensures elsewhere { IfErr result (λ b. WasElsewhere S.front S.holds S.number S.is_desk
+        S.elsewhere stage.old b.part) }
     ensures gets { IfOk result (Gets (S.front stage.old) (S.holds stage.old) (S.number stage.old) (S.is_desk stage.old) stripe
         prior (key_in (call_data call.now)) now value.new.bytes) }
     ensures passed { G.passed gate.new ≡ passed_by stripe result (G.passed gate.old) }
@@ -222,7 +226,8 @@ pub(crate) fn try_get<S: Stage<Part = Part>, G: Gate>(
     ensures bare { IfOk result (λ step. IsValueOf step value.new.bytes) }
     ensures short { IfOk result (λ _. length value.new.bytes ≤ max_value) }
     ensures same { IfErr result (λ _. value.new ≡ value.old) }
-    ensures spare { value.new.spare + length value.new.bytes ≡ value.old.spare + length value.old.bytes }
+    ensures spare { value.new.spare + length value.new.bytes ≡ value.old.spare
+        + length value.old.bytes }
 {
     let mut part = match take_stripe(stage, stripe) {
         Ok(part) => part,
@@ -256,7 +261,8 @@ pub(crate) fn try_control<S: Stage<Part = Part>>(
     ensures held { Same (S.holds stage.new) (S.holds stage.old) }
     ensures found { MatchResult result (λ _. S.losses stage.new ≡ S.losses stage.old)
         (λ b. (b.part ≡ Queue) × Rose (S.losses stage.old) (S.losses stage.new)) }
-    ensures elsewhere { IfErr result (λ b. WasElsewhere S.front S.holds S.number S.is_desk S.elsewhere stage.old b.part) }
+    ensures elsewhere { IfErr result (λ b. WasElsewhere S.front S.holds S.number S.is_desk
+        S.elsewhere stage.old b.part) }
     ensures controls { IfOk result (Controls (S.front stage.old) (S.holds stage.old) (S.number stage.old) (S.is_desk stage.old)
         vb (call_data call.now) value.new.bytes) }
     ensures alone { S.is_telling stage.old ≡ true → S.front stage.new ≡ with_noted (S.front stage.old)
@@ -269,7 +275,8 @@ pub(crate) fn try_control<S: Stage<Part = Part>>(
     ensures bare { IfOk result (λ step. IsValueOf step value.new.bytes) }
     ensures short { IfOk result (λ _. length value.new.bytes ≤ max_value) }
     ensures same { IfErr result (λ _. value.new ≡ value.old) }
-    ensures spare { value.new.spare + length value.new.bytes ≡ value.old.spare + length value.old.bytes }
+    ensures spare { value.new.spare + length value.new.bytes ≡ value.old.spare
+        + length value.old.bytes }
 {
     let mut queue = match take_queue(stage) {
         Ok(queue) => queue,
@@ -295,12 +302,14 @@ pub(crate) fn try_write<S: Stage<Part = Part>, G: Gate>(
     requires keyed { written_key (call_data call.now) ≡ Some (key_in (call_data call.now)) }
     requires within { IsWithin (call_data call.now) }
     requires moment { IsMoment now }
-    requires stripe { stripe ≡ stripe_of (key_in (call_data call.now)) (S.front stage.old).config.stripes }
+    requires stripe { stripe ≡ stripe_of (key_in (call_data call.now))
+        (S.front stage.old).config.stripes }
     requires there { there (S.front stage.old).config (Stripe stripe) ≡ true }
     requires free { S.holds stage.old (Stripe stripe) ≡ false }
     requires free_queue { S.holds stage.old Queue ≡ false }
     requires room { HasRoom call_bytes (S.covers stage.old) }
-    requires prior { PriorsStand (S.front stage.old) (S.number stage.old) (call_data call.now) prior }
+    requires prior { PriorsStand (S.front stage.old) (S.number stage.old) (call_data call.now)
+        prior }
     requires value { max_value ≤ value.old.spare + length value.old.bytes }
     ensures stays { Stays S.lent S.fixed S.number S.is_desk S.is_telling stage.old stage.new }
     ensures went { Went (S.front stage.old) (S.front stage.new) (S.holds stage.old) (S.number stage.old) (S.is_desk stage.old)
@@ -310,7 +319,8 @@ pub(crate) fn try_write<S: Stage<Part = Part>, G: Gate>(
     ensures held { Same (S.holds stage.new) (S.holds stage.old) }
     ensures found { MatchResult result (λ _. S.losses stage.new ≡ S.losses stage.old)
         (λ b. ((is_stripe stripe b.part || is_queue b.part) ≡ true) × Rose (S.losses stage.old) (S.losses stage.new)) }
-    ensures elsewhere { IfErr result (λ b. WasElsewhere S.front S.holds S.number S.is_desk S.elsewhere stage.old b.part) }
+    ensures elsewhere { IfErr result (λ b. WasElsewhere S.front S.holds S.number S.is_desk
+        S.elsewhere stage.old b.part) }
     ensures writes { IfOk result (Writes (S.front stage.old) (S.holds stage.old) (S.number stage.old) (S.is_desk stage.old) stripe
         prior (call_data call.now) now value.new.bytes) }
     ensures passed { G.passed gate.new ≡ passed_by stripe result (G.passed gate.old) }
@@ -325,7 +335,8 @@ pub(crate) fn try_write<S: Stage<Part = Part>, G: Gate>(
     ensures bare { IfOk result (λ step. IsValueOf step value.new.bytes) }
     ensures short { IfOk result (λ _. length value.new.bytes ≤ max_value) }
     ensures same { IfErr result (λ _. value.new ≡ value.old) }
-    ensures spare { value.new.spare + length value.new.bytes ≡ value.old.spare + length value.old.bytes }
+    ensures spare { value.new.spare + length value.new.bytes ≡ value.old.spare
+        + length value.old.bytes }
 {
     let mut part = match take_stripe(stage, stripe) {
         Ok(part) => part,
@@ -368,7 +379,8 @@ pub fn try_call<S: Stage<Part = Part>, G: Gate>(
     requires free { (p : PartName) → touches_call (S.front stage.old).config (call_data call.now) p ≡ true
         → S.holds stage.old p ≡ false }
     requires room { HasRoom call_bytes (S.covers stage.old) }
-    requires prior { PriorsStand (S.front stage.old) (S.number stage.old) (call_data call.now) prior }
+    requires prior { PriorsStand (S.front stage.old) (S.number stage.old) (call_data call.now)
+        prior }
     requires value { max_value ≤ value.old.spare + length value.old.bytes }
     ensures stays { Stays S.lent S.fixed S.number S.is_desk S.is_telling stage.old stage.new }
     ensures held { Same (S.holds stage.new) (S.holds stage.old) }
@@ -377,7 +389,8 @@ pub fn try_call<S: Stage<Part = Part>, G: Gate>(
     ensures passed { G.passed gate.new ≡ passed_on (has_key (call_data call.now))
         (stripe_of (key_in (call_data call.now)) config.now.stripes) result (G.passed gate.old) }
     ensures same { IfBusy result (value.new ≡ value.old) }
-    ensures spare { value.new.spare + length value.new.bytes ≡ value.old.spare + length value.old.bytes }
+    ensures spare { value.new.spare + length value.new.bytes ≡ value.old.spare
+        + length value.old.bytes }
 {
     match kind_of(call) {
         Kind::Read => {
