@@ -30,10 +30,12 @@ use Rattle.vb_front.specs.declared.part.Part.TheVariants as parts
 use Rattle.vb_front.specs.declared.step.Step.{Step}
 use Rattle.vb_front.specs.Parts.{part_stands, part_keeps}
 use Rattle.vb_front.specs.Stands.{StripeStands, QueueStands}
-use Rattle.vb_front.specs.Priors.{PriorStands, PriorsStand, event_of, IsNext}
+use Rattle.vb_front.specs.Priors.{key_in, PriorStands, PriorsStand, event_of, IsNext}
 use Rattle.vb_front.specs.Reads.{Read, ReadIsLegal}
 use Rattle.vb_front.specs.Controls.{Control, ControlIsLegal}
-use Rattle.vb_front.specs.Writes.{Write, WriteIsLegal}
+use Rattle.vb_front.specs.Writes.{Write, write_step, WriteIsLegal, AnsweredHasRoom}
+use Rattle.vb_front.specs.WriteSteps.{WriteIsExact}
+use Rattle.vb_front.specs.Tries.{IsExactly}
 use Rattle.vb_front.proofs.DeskLemmas.{priors_stand_on}
 
 -- a call on a key touches the key's stripe
@@ -179,3 +181,11 @@ module _ (f : FrontData) (holds : PartName → Bool) (caller : ℕ) (desk : Bool
 
   pub wrote_stands : (g : FrontData) → Went f g holds caller desk (event_of caller call now prior step value) → StripeStands g stripe new × QueueStands g after
   wrote_stands g went = went_next f g holds caller desk (event_of caller call now prior step value) (λ h. StripeStands h stripe new × QueueStands h after) wrote_next went
+
+-- what `write` says of its step
+pub is_exactly : (part : StripePart) (queue : QueueData) (prior : Option Ticket) (call : CallData) (now : ℕ)
+    → WriteIsExact part queue call (key_in call) now prior (write_step part queue prior call (key_in call) now)
+    → AnsweredHasRoom part queue call (key_in call) now prior (write_step part queue prior call (key_in call) now)
+    → IsExactly part queue prior call now
+unfolding IsExactly
+is_exactly part queue prior call now exact fits = (exact, fits)

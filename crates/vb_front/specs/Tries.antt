@@ -36,7 +36,8 @@ use Rattle.vb_front.specs.Stands.{StripeStands, QueueStands}
 use Rattle.vb_front.specs.Priors.{key_in, event_of}
 use Rattle.vb_front.specs.Reads.{read_step, ReadIsExact}
 use Rattle.vb_front.specs.Controls.{control_step}
-use Rattle.vb_front.specs.Writes.{write_step, Leaves}
+use Rattle.vb_front.specs.Writes.{write_step, Leaves, AnsweredHasRoom}
+use Rattle.vb_front.specs.WriteSteps.{WriteIsExact}
 
 -- room for the key and the value of a call, and for the value of its answer
 abbrev pub call_bytes : ℕ
@@ -88,6 +89,7 @@ pub record GetsFrom (old new : Option Part) (prior : Option Ticket) (key : List 
   pub before : old ≡ Some (parts.Stripe part)
   pub step_is : step ≡ (read_step part prior key now).step
   pub value_is : value ≡ (read_step part prior key now).value
+  pub exact : ReadIsExact part key prior (read_step part prior key now)
   pub behind : new ≡ Some (parts.Stripe (read_step part prior key now).part)
 
 -- A part was not at home, and all parts that the vBucket has are where they were.
@@ -120,6 +122,12 @@ pub record ControlsFrom (old new : Option Part) (id : ℕ) (call : CallData) (va
   pub value_is : value ≡ (control_step queue id call).value
   pub behind : new ≡ Some (parts.Queue queue)
 
+-- When it comes to which step on these parts, and that where documents are known it had room if it was answered.
+unfoldable pub IsExactly : StripePart → QueueData → Option Ticket → CallData → ℕ → Type 0
+IsExactly part queue prior call now =
+    WriteIsExact part queue call (key_in call) now prior (write_step part queue prior call (key_in call) now)
+    × AnsweredHasRoom part queue call (key_in call) now prior (write_step part queue prior call (key_in call) now)
+
 -- A call that may put a document came to what it comes to on the stripe and the queue as they were taken.
 pub record Writes (f : FrontData) (held : PartName → Bool) (caller : ℕ) (desk : Bool) (stripe : ℕ) (prior : Option Ticket) (call : CallData) (now : ℕ) (value : List ℕ) (step : Step) : Type 0 where
   pub at : FrontData
@@ -131,6 +139,7 @@ pub record Writes (f : FrontData) (held : PartName → Bool) (caller : ℕ) (des
   pub queued : QueueStands at queue
   pub step_is : step ≡ (write_step part queue prior call (key_in call) now).step
   pub value_is : value ≡ (write_step part queue prior call (key_in call) now).value
+  pub exact : IsExactly part queue prior call now
 
 pub record WritesFrom (old new queue_old queue_new : Option Part) (prior : Option Ticket) (call : CallData) (now : ℕ) (value : List ℕ) (step : Step) : Type 0 where
   pub part : StripePart
@@ -141,6 +150,7 @@ pub record WritesFrom (old new queue_old queue_new : Option Part) (prior : Optio
   pub value_is : value ≡ (write_step part queue prior call (key_in call) now).value
   pub after : StripePart
   pub later : QueueData
+  pub exact : IsExactly part queue prior call now
   pub left : Leaves part queue (write_step part queue prior call (key_in call) now) after later
   pub behind : new ≡ Some (parts.Stripe after)
   pub queues : queue_new ≡ Some (parts.Queue later)

@@ -50,6 +50,7 @@ returns-clause-becomes g c = λ told.
       before = c.in-Ok.ensures.was_there told;
       step_is = r.ensures.step;
       value_is = r.ensures.value;
+      exact = r.ensures.exact;
       behind = behind ∙ ap (λ b. cond b (Some (parts.Stripe r.new.part)) (g.S.Stage.tells c.note_step.new.stage (Stripe c.args.stripe))) (same_is c.args.stripe) ∙ ap (λ x. Some (parts.Stripe x)) r.ensures.part;
     }
 

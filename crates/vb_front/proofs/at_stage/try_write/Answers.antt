@@ -13,7 +13,7 @@ use Rattle.vb_front.specs.Stands.{StripeStands}
 use Rattle.vb_front.specs.Priors.{key_in, event_of}
 use Rattle.vb_front.specs.Writes.{write_step}
 use Rattle.vb_front.proofs.BareLemmas.{write_bare}
-use Rattle.vb_front.proofs.TryLemmas.{wrote_may, wrote_stands, priors_taken, grown_twice, went_given}
+use Rattle.vb_front.proofs.TryLemmas.{is_exactly, wrote_may, wrote_stands, priors_taken, grown_twice, went_given}
 use Rattle.vb_front.proofs.at_stage.try_write.Goals as goal
 
 pub give-requires-clause-stands : goal.give-requires-clause-stands
@@ -93,6 +93,7 @@ returns-clause-writes g c =
       queued = q.ensures.taken.0;
       step_is = r.ensures.step;
       value_is = r.ensures.value;
+      exact = is_exactly c.in-Ok.part q.queue c.args.prior call c.args.now r.ensures.exact r.ensures.fits;
     }
 
 pub returns-clause-becomes : goal.returns-clause-becomes
@@ -109,6 +110,7 @@ returns-clause-becomes g c = λ told.
       queued = sym (t.ensures.tells told Queue refl) ∙ q.ensures.was_there telling;
       step_is = r.ensures.step;
       value_is = r.ensures.value;
+      exact = is_exactly c.in-Ok.part q.queue c.args.prior call c.args.now r.ensures.exact r.ensures.fits;
       after = r.new.part;
       later = r.new.queue;
       left = r.ensures.left;
