@@ -284,7 +284,7 @@ module _ (f : FrontData) (stripe caller now : ℕ) (call : CallData) (key : List
           next_both f e (λ g. StripeStands g stripe new) (λ g. QueueStands g after)
           (subst (λ (b : BookData). IsNext f e (λ g. StripeStands g stripe (record { table = new.table; book = b }))) (sym left.book)
           (refused_behind f stripe part stands caller call now prior causes.Quota (quota lacks) (λ place by. (λ is. cc, λ is. cc))))
-          (queue_refuses f caller call now causes.Quota after (queue_expels f q after left.queue u))
+          (queue_refuses f caller call now causes.Quota after (queue_expels f q after left.queue.expelled u))
 
       -- the parts behind the document
       abbrev event : EventData

@@ -113,7 +113,7 @@ WriteComesTo part q call key now prior steps.FetchFull new = FindsNoPlace part c
 -- All but one that waits frees its old place, and one that puts a document all places of its key.
 abbrev pub WriteFrees : StripePart → Option Ticket → Step → Act → BookData → Type 0
 WriteFrees part prior (steps.Done reply) Stays new = new ≡ release part.book prior
-WriteFrees part prior (steps.Done reply) (Clears key need) new = ⊥
+WriteFrees part prior (steps.Done reply) (Clears key len) new = ⊥
 WriteFrees part prior (steps.Done reply) (Places key doc) new = new ≡ forget (release part.book prior) key
 WriteFrees part prior (steps.Refused cause) act new = new ≡ release part.book prior
 WriteFrees part prior (steps.Fetch ticket) act new = Unit {0}

@@ -27,7 +27,7 @@ use Rattle.hash_stripe.specs.Stripes.{StripeData, found, resident_value, text_of
 use Rattle.fetch_book.specs.Places.{forgotten}
 use Rattle.fetch_book.specs.Books.{BookData}
 use Rattle.ckpt_manager.specs.declared.data.QueueData.{QueueData}
-use Rattle.ckpt_manager.specs.Queue.{queued, kept_with, Expelled}
+use Rattle.ckpt_manager.specs.Queue.{queued, kept_with, Expelled, NoneTooMany}
 use Rattle.vb_front.specs.declared.part.StripePart.{StripePart}
 use Rattle.vb_front.specs.declared.step.Step.{Step}
 use Rattle.vb_front.specs.declared.step.Step.TheVariants as steps
@@ -91,10 +91,10 @@ row_of w (Delete key cas) now live = delete_row w key cas now (cas_of live)
 row_of w (Touch key expiration fetch) now live = answer_touch fetch w key expiration now live
 row_of w call now live = answer_row w call now
 
--- What becomes of the documents: nothing; room is made for so many blocks under a key, and nothing put; a document is put.
+-- What becomes of the documents: nothing; room is made for a value of this length under a key, and nothing put; a document is put.
 pub data Act : Type 0 where
   Stays : Act
-  Clears : (key : List ℕ) → (need : ℕ) → Act
+  Clears : (key : List ℕ) → (len : ℕ) → Act
   Places : (key : List ℕ) → (doc : Doc) → Act
 
 -- what it comes to, the value of its answer, the places that it leaves, and what becomes of the documents
@@ -131,7 +131,7 @@ value_if (Some reply) value = value
 
 -- A document is put where there is room. No call waits for what it replaces.
 abbrev pub write_put : StripePart → Option Ticket → Answer → List ℕ → Doc → Bool → Write
-write_put part prior a key doc true = write_refused part prior causes.Quota (Clears key (doc_blocks key doc))
+write_put part prior a key doc true = write_refused part prior causes.Quota (Clears key (length doc.value))
 write_put part prior a key doc false = record {
   step = steps.Done a.reply;
   value = a.value;
@@ -191,7 +191,7 @@ node_of key doc = record { key = key; meta = meta_of doc; value = Some doc.value
 -- The memory that is left: as it was, with documents of other keys ejected, or with the document put where that made room.
 abbrev pub SlotsLeft : StripeData → Act → StripeData → Type 0
 SlotsLeft s Stays new = new.slots ≡ s.slots
-SlotsLeft s (Clears key need) new = EjectsOthers s.eviction s.mark key need s.slots new.slots
+SlotsLeft s (Clears key len) new = EjectsOthers s.eviction s.mark key (blocks (length key) + blocks len) s.slots new.slots
 SlotsLeft s (Places key doc) new = Restores s.eviction s.mark (doc_blocks key doc) (node_of key doc) s.slots new.slots
 
 -- all else of the stripe is as it was
@@ -199,22 +199,29 @@ pub record LeavesSlots (s : StripeData) (act : Act) (new : StripeData) : Type 0 
   pub rest : new ≡ record s { slots = new.slots }
   pub slots : SlotsLeft s act new
 
--- some items went that every cursor has passed, and then the document was queued
+-- Some items went that every cursor has passed, no more than had to, and then the document was queued.
 pub record Queues (old : QueueData) (key : List ℕ) (doc : Doc) (new : QueueData) : Type 0 where
   pub room : QueueData
   pub expelled : Expelled old room
+  pub least : NoneTooMany old room key (length doc.value)
   pub after : new ≡ queued room key (meta_of doc) doc.value
 
-abbrev pub QueueLeft : QueueData → Act → QueueData → Type 0
-QueueLeft q Stays new = new ≡ q
-QueueLeft q (Clears key need) new = Expelled q new
-QueueLeft q (Places key doc) new = Queues q key doc new
+-- Room was made in vain: some items went that every cursor has passed, no more than had to, and none where the stripe had no room.
+pub record Vacates (s : StripeData) (old : QueueData) (key : List ℕ) (len : ℕ) (new : QueueData) : Type 0 where
+  pub expelled : Expelled old new
+  pub least : NoneTooMany old new key len
+  pub behind : has_no_room s key (blocks (length key) + blocks len) ≡ true → new ≡ old
+
+abbrev pub QueueLeft : StripeData → QueueData → Act → QueueData → Type 0
+QueueLeft s q Stays new = new ≡ q
+QueueLeft s q (Clears key len) new = Vacates s q key len new
+QueueLeft s q (Places key doc) new = Queues q key doc new
 
 -- What is left of the parts.
 pub record Leaves (old : StripePart) (q : QueueData) (w : Write) (new : StripePart) (after : QueueData) : Type 0 where
   pub book : new.book ≡ w.book
   pub table : LeavesSlots old.table w.act new.table
-  pub queue : QueueLeft q w.act after
+  pub queue : QueueLeft old.table q w.act after
 
 -- What code does comes to this.
 pub record Comes (old : StripePart) (q : QueueData) (w : Write) (came : Step) (new : StripePart) (after : QueueData) : Type 0 where

@@ -7,8 +7,8 @@ ghost use Rattle.ep_model.specs.World.{blocks, next_doc};
 ghost use Rattle.ep_model.specs.Answer.{put_success};
 ghost use Rattle.hash_stripe.specs.Nodes.{EjectsOthers, placed};
 ghost use Rattle.hash_stripe.specs.Stripes.{Fits};
-ghost use Rattle.ckpt_manager.specs.Queue.{CanHold, Expelled, queued};
-ghost use Rattle.vb_front.specs.Waits.{release};
+ghost use Rattle.ckpt_manager.specs.Queue.{CanHold, Expelled, NoneTooMany, queued};
+ghost use Rattle.vb_front.specs.Waits.{release, has_no_room};
 ghost use Rattle.vb_front.specs.Writes.{shown_world, lacks_room, step_of, forget, write_answer, Comes};
 
 use crate::controls::newest;
@@ -47,6 +47,9 @@ fn make_room(table: &mut Stripe, queue: &mut Queue, key: &[u8], len: u32) -> boo
     ensures fits { result ≡ true → Fits key.now (blocks (length key.now) + blocks len)
         table.new.slots }
     ensures expelled { Expelled queue.old queue.new }
+    ensures least { NoneTooMany queue.old queue.new key.now len }
+    ensures behind { has_no_room table.old key.now (blocks (length key.now) + blocks len) ≡ true
+        → queue.new ≡ queue.old }
     ensures held { result ≡ true → CanHold queue.new key.now len }
     ensures high { queue.new.high ≡ queue.old.high }
     ensures maxcas { queue.new.maxcas ≡ queue.old.maxcas }
