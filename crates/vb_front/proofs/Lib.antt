@@ -24,3 +24,4 @@ pub mod RoomLemmas
 pub mod WriteExactLemmas
 pub mod TryLemmas
 pub mod BareLemmas
+pub mod WorldLemmas

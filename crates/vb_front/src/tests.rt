@@ -1,4 +1,5 @@
 // Calls on held parts, with their answers written out.
+mod at_stage;
 mod writes;
 
 ghost use Rattle.std.specs.Prelude.{◌≡◌, ◌+◌, ◌≤◌, length};

@@ -1,0 +1,12 @@
+use Rattle.std.proofs.Common.{ap, ◌∙◌}
+use Rattle.vb_world.specs.declared.data.WorldData.{WorldData}
+use Rattle.vb_world.specs.World.{has_out}
+use Rattle.vb_world.proofs.PlaceLemmas.{out_pushed, out_nowhere}
+use Rattle.vb_front.specs.declared.part.Part.{Part}
+use Rattle.vb_front.proofs.tests.at_stage.one_vbucket.Goals as goal
+
+pub returns-clause-home : goal.returns-clause-home
+returns-clause-home c = λ caller part.
+    let out = λ (w : WorldData Part). has_out w 0 caller part in
+    let none = out_nowhere c.in_ok-world.world 0 caller part (ap (λ (w : WorldData Part). w.buckets) c.in_ok-world.ensures.new) in
+    ap out c.in_ok-add.ensures.ok ∙ out_pushed c.in_ok-world.world c.in_ok-empty_parts.field-0.items 0 caller part none
