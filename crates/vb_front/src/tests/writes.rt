@@ -5,7 +5,7 @@ ghost use Rattle.ep_model.specs.Limits.{IsKey, max_value};
 use super::{config, ticket};
 use crate::{Step, StripePart, read, write};
 use ckpt_manager::Queue;
-use ep_model::{Call, Eviction, Out, Reply, StoreKind, Ticket};
+use ep_model::{Call, Cause, Eviction, Out, Reply, StoreKind, Ticket};
 use fetch_book::{Book, Outcome};
 use hash_stripe::Stripe;
 use std::test::Fail;
@@ -23,7 +23,7 @@ fn status(step: Step) -> u16 {
 }
 
 /// A Set of so many bytes on the only stripe of a vBucket.
-fn set(part: &mut StripePart, queue: &mut Queue, key: &[u8], len: usize, value: &mut Out) -> u16
+fn set(part: &mut StripePart, queue: &mut Queue, key: &[u8], len: usize, value: &mut Out) -> Step
     requires only { part.old.table.stripes ≡ 1 }
     requires first { part.old.table.index ≡ 0 }
     requires key { IsKey key.now }
@@ -42,7 +42,7 @@ fn set(part: &mut StripePart, queue: &mut Queue, key: &[u8], len: usize, value: 
         expiration: 0,
         cas: 0,
     };
-    status(write(part, queue, &call, 0, None, value))
+    write(part, queue, &call, 0, None, value)
 }
 
 /// A document has to fit the stripe beside what can't be ejected.
@@ -52,12 +52,16 @@ fn answers_of_a_small_stripe(part: &mut StripePart, queue: &mut Queue, value: &m
     requires room { max_value ≤ value.old.spare + length value.old.bytes }
     ensures room { value.new.spare + length value.new.bytes ≡ value.old.spare + length value.old.bytes }
 {
-    let first = set(part, queue, b"a", 1664, value);
+    let first = status(set(part, queue, b"a", 1664, value));
     let crowded = set(part, queue, b"b", 256, value);
-    let again = set(part, queue, b"a", 1792, value);
+    let again = status(set(part, queue, b"a", 1792, value));
     let large = set(part, queue, b"c", 1921, value);
-    let empty = set(part, queue, b"c", 0, value);
-    first == 0x00 && crowded == 0x86 && again == 0x00 && large == 0x03 && empty == 0x00
+    let empty = status(set(part, queue, b"c", 0, value));
+    first == 0x00
+        && crowded == Step::Refused(Cause::Quota)
+        && again == 0x00
+        && large == Step::Done(Reply::refusal(0x03))
+        && empty == 0x00
 }
 
 /// A document has to fit the queue beside what isn't stored.
@@ -66,10 +70,13 @@ fn answers_of_a_small_queue(part: &mut StripePart, queue: &mut Queue, value: &mu
     requires first { part.old.table.index ≡ 0 }
     requires room { max_value ≤ value.old.spare + length value.old.bytes }
 {
-    let first = set(part, queue, b"a", 1792, value);
+    let first = status(set(part, queue, b"a", 1792, value));
     let crowded = set(part, queue, b"b", 256, value);
     let read = status(read(part, &Call::Get { key: b"a" }, 0, None, value));
-    first == 0x00 && crowded == 0x86 && read == 0x00 && value.bytes().len() == 1792
+    first == 0x00
+        && crowded == Step::Refused(Cause::Quota)
+        && read == 0x00
+        && value.bytes() == &BYTES[..1792]
 }
 
 #[test]
