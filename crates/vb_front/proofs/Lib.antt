@@ -21,6 +21,7 @@ pub mod SeenLemmas
 pub mod RowEffectLemmas
 pub mod WriteLemmas
 pub mod RoomLemmas
+pub mod GetRoomLemmas
 pub mod WriteExactLemmas
 pub mod TryLemmas
 pub mod BareLemmas

@@ -87,7 +87,7 @@ active_is Pending is = absurd (cc)
 active_is Dead is = absurd (cc)
 
 -- in an active vBucket a Get shows the live document
-get_active : (w : World) (key : List ℕ) (now : ℕ) → w.state ≡ Active
+pub get_active : (w : World) (key : List ℕ) (now : ℕ) → w.state ≡ Active
     → answer_get (live_of (get w.docs key) now) ≡ answer w (Get key) now
 get_active w key now active = sym (ap (λ (v : VbState). unless (state_refusal v true) (answer_get (live_of (get w.docs key) now))) active)
 

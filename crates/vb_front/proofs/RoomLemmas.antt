@@ -94,7 +94,7 @@ gone_stands : (mark : ℕ) (key : List ℕ) (doc : Option Doc) → IsGone Value 
 gone_stands mark key None gone = refl
 gone_stands mark key (Some doc) gone = ap (λ b. cond b 0 (doc_blocks key doc)) gone.1
 
-absent_stands : (key : List ℕ) (doc : Option Doc) → IsAbsent doc → standing_blocks key doc ≡ 0
+pub absent_stands : (key : List ℕ) (doc : Option Doc) → IsAbsent doc → standing_blocks key doc ≡ 0
 absent_stands key None gone = refl
 absent_stands key (Some doc) gone = ap (λ b. cond b 0 (doc_blocks key doc)) gone
 
@@ -120,13 +120,13 @@ standing_here e mark key doc (Some node) here gone shows =
     at Full d None here of = absurd (cc)
     at v d (Some text) here of = ap (λ (t : List ℕ). blocks (length t)) (sym of)
 
-module _ (f : FrontData) (stripe caller now : ℕ) (call : CallData) (key : List ℕ) (written : written_key call ≡ Some key) (keyed : IsKey key) (legal : IsLegal f) (here : stripe_of key f.config.stripes ≡ stripe)
-    (old : StripePart) (q : QueueData) (s : StripeStands f stripe old) (u : QueueStands f q) (sound : IsStripe old.table) (told : (world_of f).told ≡ true) (serving : IsServing (world_of f)) where
+module _ (f : FrontData) (stripe now : ℕ) (call : CallData) (key : List ℕ) (here : stripe_of key f.config.stripes ≡ stripe)
+    (old : StripePart) (s : StripeStands f stripe old) (sound : IsStripe old.table) (told : (world_of f).told ≡ true) (serving : IsServing (world_of f)) where
   pins : pinned (world_of f) stripe (marked f stripe) key ≡ others_pinned old.table.eviction old.table.mark key old.table.slots
   pins = let frame = frame_after (begun f) f.events in pinned_is f stripe key old.table s.table (s.table.shown told) serving.opened sound.apart frame.stripes frame.eviction
 
   -- what there is of the key fits beside what can't be ejected
-  own_fits : (n : ℕ) → n ≤ slot_blocks (node_at old.table.slots key) → pinned (world_of f) stripe (marked f stripe) key + n ≤ f.config.blocks
+  pub own_fits : (n : ℕ) → n ≤ slot_blocks (node_at old.table.slots key) → pinned (world_of f) stripe (marked f stripe) key + n ≤ f.config.blocks
   own_fits n le =
       let p = pins in
       let some = others_pins old.table.eviction old.table.mark key old.table.slots in
@@ -139,7 +139,7 @@ module _ (f : FrontData) (stripe caller now : ℕ) (call : CallData) (key : List
   same_old = ap (λ (e : Eviction). cond (needs e call && is_none (own_refusal (world_of f).fit call)) (standing_blocks key (get (world_of f).docs key)) 0) (frame_after (begun f) f.events).eviction
 
   -- a call that lacks nothing
-  old_here : (needs old.table.eviction call && is_away old.table.eviction (found (node_at old.table.slots key))) ≡ false → old_blocks (world_of f) key call ≤ slot_blocks (node_at old.table.slots key)
+  pub old_here : (needs old.table.eviction call && is_away old.table.eviction (found (node_at old.table.slots key))) ≡ false → old_blocks (world_of f) key call ≤ slot_blocks (node_at old.table.slots key)
   old_here has = at (needs f.config.eviction call) refl
     where
       none_le : (n : ℕ) → 0 ≤ n
@@ -161,7 +161,7 @@ module _ (f : FrontData) (stripe caller now : ℕ) (call : CallData) (key : List
           omega arith
 
   -- there is room for what a call needs
-  short_by : (effect : Effect) → (answer (world_of f) call now).effect ≡ effect → pinned (world_of f) stripe (marked f stripe) key + max (blocks_if (put_by effect)) (old_blocks (world_of f) key call) ≤ f.config.blocks
+  pub short_by : (effect : Effect) → (answer (world_of f) call now).effect ≡ effect → pinned (world_of f) stripe (marked f stripe) key + max (blocks_if (put_by effect)) (old_blocks (world_of f) key call) ≤ f.config.blocks
       → is_overfull f (put_by effect) ≡ false → is_short f key call now ≡ false
   short_by effect is fits free =
       let needed : need (world_of f) key call now ≡ max (blocks_if (put_by effect)) (old_blocks (world_of f) key call) = ap (λ (e : Effect). max (blocks_if (put_by e)) (old_blocks (world_of f) key call)) is in
@@ -170,74 +170,76 @@ module _ (f : FrontData) (stripe caller now : ℕ) (call : CallData) (key : List
       ∙ fits_test (max (blocks_if (put_by effect)) (old_blocks (world_of f) key call)) (pinned (world_of f) stripe (marked f stripe) key) f.config.blocks fits in
       ap (λ b. b || is_overfull f (put_by (answer (world_of f) call now).effect)) full ∙ ap (λ (e : Effect). is_overfull f (put_by e)) is ∙ free
 
-  -- whoever is answered by an effect or without one
-  answered : (prior : Option Ticket) (a : Answer) (effect : Effect) → (answer (world_of f) call now).effect ≡ effect → IsRowEffect (shown_world old.table q) key now a effect
-      → old_blocks (world_of f) key call ≤ slot_blocks (node_at old.table.slots key)
-      → (reply : Reply) → (write_effect old q prior a effect).step ≡ steps.Done reply → is_short f key call now ≡ false
-  answered prior a Nothing is does le reply came = short_by Nothing is (own_fits (max 0 (old_blocks (world_of f) key call)) (omega arith)) refl
-  answered prior a (Puts other doc) is does le reply came =
-      subst (λ (k : List ℕ). (answer (world_of f) call now).effect ≡ Puts k doc → (write_effect old q prior a (Puts k doc)).step ≡ steps.Done reply → is_short f key call now ≡ false) (sym does.same)
-      (λ is' came'. at (lacks_room old.table q key (length doc.value)) refl is' came') is came
-    where
-      room : (m n : ℕ) → nat_lt m n ≡ false → n ≤ m
-      room m n h = grind (arith, nat_tests)
+  -- a call that may put a document
+  module _ (caller : ℕ) (written : written_key call ≡ Some key) (keyed : IsKey key) (legal : IsLegal f) (q : QueueData) (u : QueueStands f q) where
+    -- whoever is answered by an effect or without one
+    answered : (prior : Option Ticket) (a : Answer) (effect : Effect) → (answer (world_of f) call now).effect ≡ effect → IsRowEffect (shown_world old.table q) key now a effect
+        → old_blocks (world_of f) key call ≤ slot_blocks (node_at old.table.slots key)
+        → (reply : Reply) → (write_effect old q prior a effect).step ≡ steps.Done reply → is_short f key call now ≡ false
+    answered prior a Nothing is does le reply came = short_by Nothing is (own_fits (max 0 (old_blocks (world_of f) key call)) (omega arith)) refl
+    answered prior a (Puts other doc) is does le reply came =
+        subst (λ (k : List ℕ). (answer (world_of f) call now).effect ≡ Puts k doc → (write_effect old q prior a (Puts k doc)).step ≡ steps.Done reply → is_short f key call now ≡ false) (sym does.same)
+        (λ is' came'. at (lacks_room old.table q key (length doc.value)) refl is' came') is came
+      where
+        room : (m n : ℕ) → nat_lt m n ≡ false → n ≤ m
+        room m n h = grind (arith, nat_tests)
 
-      at : (b : Bool) → lacks_room old.table q key (length doc.value) ≡ b → (answer (world_of f) call now).effect ≡ Puts key doc → (write_put old prior a key doc b).step ≡ steps.Done reply → is_short f key call now ≡ false
-      at true lacks is' came' = absurd (cc)
-      at false lacks is' came' =
-          let own = own_fits (old_blocks (world_of f) key call) le in
-          let p = pins in
-          let size = s.table.blocks in
-          let fits = room (length old.table.slots) (others_pinned old.table.eviction old.table.mark key old.table.slots + doc_blocks key doc) (or_left (has_no_room old.table key (doc_blocks key doc)) (nat_lt q.blocks (kept_with q key (length doc.value))) lacks) in
-          let held : nat_lt q.blocks (kept_with q key (length doc.value)) ≡ false = or_right (has_no_room old.table key (doc_blocks key doc)) (nat_lt q.blocks (kept_with q key (length doc.value))) lacks in
-          short_by (Puts key doc) is' (omega arith) (short_is_overfull f q key doc told (does.seqno ∙ ap (λ n. n + 1) u.high) u ∙ held)
-  answered prior a (Sets state) is does le reply came = absurd does
+        at : (b : Bool) → lacks_room old.table q key (length doc.value) ≡ b → (answer (world_of f) call now).effect ≡ Puts key doc → (write_put old prior a key doc b).step ≡ steps.Done reply → is_short f key call now ≡ false
+        at true lacks is' came' = absurd (cc)
+        at false lacks is' came' =
+            let own = own_fits (old_blocks (world_of f) key call) le in
+            let p = pins in
+            let size = s.table.blocks in
+            let fits = room (length old.table.slots) (others_pinned old.table.eviction old.table.mark key old.table.slots + doc_blocks key doc) (or_left (has_no_room old.table key (doc_blocks key doc)) (nat_lt q.blocks (kept_with q key (length doc.value))) lacks) in
+            let held : nat_lt q.blocks (kept_with q key (length doc.value)) ≡ false = or_right (has_no_room old.table key (doc_blocks key doc)) (nat_lt q.blocks (kept_with q key (length doc.value))) lacks in
+            short_by (Puts key doc) is' (omega arith) (short_is_overfull f q key doc told (does.seqno ∙ ap (λ n. n + 1) u.high) u ∙ held)
+    answered prior a (Sets state) is does le reply came = absurd does
 
-  over_answered : (prior : Option Ticket) (doc : Option Doc) → row_of (shown_world old.table q) call now (live_of doc now) ≡ answer (world_of f) call now
-      → old_blocks (world_of f) key call ≤ slot_blocks (node_at old.table.slots key) → (reply : Reply) → (write_over old q prior call now doc).step ≡ steps.Done reply → is_short f key call now ≡ false
-  over_answered prior doc same le reply came =
-      let a : Answer = row_of (shown_world old.table q) call now (live_of doc now) in
-      answered prior a a.effect (sym (ap (λ (x : Answer). x.effect) same)) (row_effect (shown_world old.table q) call now (live_of doc now) key written) le reply came
+    over_answered : (prior : Option Ticket) (doc : Option Doc) → row_of (shown_world old.table q) call now (live_of doc now) ≡ answer (world_of f) call now
+        → old_blocks (world_of f) key call ≤ slot_blocks (node_at old.table.slots key) → (reply : Reply) → (write_over old q prior call now doc).step ≡ steps.Done reply → is_short f key call now ≡ false
+    over_answered prior doc same le reply came =
+        let a : Answer = row_of (shown_world old.table q) call now (live_of doc now) in
+        answered prior a a.effect (sym (ap (λ (x : Answer). x.effect) same)) (row_effect (shown_world old.table q) call now (live_of doc now) key written) le reply came
 
-  -- a call that lacks what it needs
-  waits_answered : (needed : needs old.table.eviction call ≡ true) (prior : Option Ticket) (outcome : Option Outcome) → prior_outcome old.book prior ≡ outcome → PriorsStand f caller call prior
-      → (reply : Reply) → (write_waits old q prior call key now (waited_for old.table key prior outcome)).step ≡ steps.Done reply → is_short f key call now ≡ false
-  waits_answered needed prior outcome is priors reply came = at prior outcome is priors came
-    where
-      of_key : key_of call ≡ Some key
-      of_key = written_keyed call key written
+    -- a call that lacks what it needs
+    waits_answered : (needed : needs old.table.eviction call ≡ true) (prior : Option Ticket) (outcome : Option Outcome) → prior_outcome old.book prior ≡ outcome → PriorsStand f caller call prior
+        → (reply : Reply) → (write_waits old q prior call key now (waited_for old.table key prior outcome)).step ≡ steps.Done reply → is_short f key call now ≡ false
+    waits_answered needed prior outcome is priors reply came = at prior outcome is priors came
+      where
+        of_key : key_of call ≡ Some key
+        of_key = written_keyed call key written
 
-      asks : (book : BookData) → ask_step book ≡ steps.Done reply → is_short f key call now ≡ false
-      asks book asked = elim (is_full book) as (λ b. cond b steps.FetchFull (steps.Fetch (next_ticket book)) ≡ steps.Done reply → is_short f key call now ≡ false) [ true ↦ λ h. absurd (cc) | false ↦ λ h. absurd (cc) ] asked
+        asks : (book : BookData) → ask_step book ≡ steps.Done reply → is_short f key call now ≡ false
+        asks book asked = elim (is_full book) as (λ b. cond b steps.FetchFull (steps.Fetch (next_ticket book)) ≡ steps.Done reply → is_short f key call now ≡ false) [ true ↦ λ h. absurd (cc) | false ↦ λ h. absurd (cc) ] asked
 
-      crowded : (ticket : Ticket) (own : Option ℕ) → own_refusal (shown_world old.table q).fit call ≡ own → (write_crowded old (Some ticket) own).step ≡ steps.Done reply → is_short f key call now ≡ false
-      crowded ticket None own came' = absurd (cc)
-      crowded ticket (Some status) own came' =
-          let same = own_answer f stripe caller now call key written keyed legal here old q s u (Some ticket) sound serving.opened serving.active status own in
-          let large : own_refusal (world_of f).fit call ≡ Some status = ap (λ n. own_refusal n call) (sym (fit_is f stripe caller now call key written keyed legal here old q s u)) ∙ own in
-          let none : old_blocks (world_of f) key call ≡ 0 = ap (λ o. cond (needs (world_of f).eviction call && is_none o) (standing_blocks key (get (world_of f).docs key)) 0) large
-          ∙ elim (needs (world_of f).eviction call) as (λ b. cond (b && false) (standing_blocks key (get (world_of f).docs key)) 0 ≡ 0) [ true ↦ refl | false ↦ refl ] in
-          let fits = own_fits 0 (omega arith) in
-          short_by Nothing (ap (λ (x : Answer). x.effect) same) (omega arith) refl
+        crowded : (ticket : Ticket) (own : Option ℕ) → own_refusal (shown_world old.table q).fit call ≡ own → (write_crowded old (Some ticket) own).step ≡ steps.Done reply → is_short f key call now ≡ false
+        crowded ticket None own came' = absurd (cc)
+        crowded ticket (Some status) own came' =
+            let same = own_answer f stripe caller now call key written keyed legal here old q s u (Some ticket) sound serving.opened serving.active status own in
+            let large : own_refusal (world_of f).fit call ≡ Some status = ap (λ n. own_refusal n call) (sym (fit_is f stripe caller now call key written keyed legal here old q s u)) ∙ own in
+            let none : old_blocks (world_of f) key call ≡ 0 = ap (λ o. cond (needs (world_of f).eviction call && is_none o) (standing_blocks key (get (world_of f).docs key)) 0) large
+            ∙ elim (needs (world_of f).eviction call) as (λ b. cond (b && false) (standing_blocks key (get (world_of f).docs key)) 0 ≡ 0) [ true ↦ refl | false ↦ refl ] in
+            let fits = own_fits 0 (omega arith) in
+            short_by Nothing (ap (λ (x : Answer). x.effect) same) (omega arith) refl
 
-      at : (prior : Option Ticket) (outcome : Option Outcome) → prior_outcome old.book prior ≡ outcome → PriorsStand f caller call prior → (write_waits old q prior call key now (waited_for old.table key prior outcome)).step ≡ steps.Done reply → is_short f key call now ≡ false
-      at None outcome is priors came = asks old.book came
-      at (Some ticket) None is priors came = asks (release old.book (Some ticket)) came
-      at (Some ticket) (Some outcomes.Waiting) is priors came = absurd (cc)
-      at (Some ticket) (Some outcomes.Merged) is priors came = asks (release old.book (Some ticket)) came
-      at (Some ticket) (Some outcomes.Absent) is priors came =
-          let gone = prior_shows f stripe caller call key old ticket outcomes.Absent legal of_key s priors is told in
-          let none = absent_stands key (get (world_of f).docs key) gone in
-          let le : old_blocks (world_of f) key call ≤ standing_blocks key (get (world_of f).docs key) =
-          elim (needs (world_of f).eviction call && is_none (own_refusal (world_of f).fit call)) as (λ b. cond b (standing_blocks key (get (world_of f).docs key)) 0 ≤ standing_blocks key (get (world_of f).docs key)) [ true ↦ omega arith | false ↦ omega arith ] in
-          over_answered (Some ticket) None (absent_answer f stripe caller now call key written keyed legal here old q s u serving.active gone) (omega arith) reply came
-      at (Some ticket) (Some (outcomes.Failed fault)) is priors came = absurd (cc)
-      at (Some ticket) (Some outcomes.NoMemory) is priors came = absurd (cc)
-      at (Some ticket) (Some (outcomes.NoRoom blocks)) is priors came =
-          elim (has_no_room old.table key blocks) as (λ b. (write_waits old q (Some ticket) call key now (cond b (waits.Refused causes.Quota) waits.Asks)).step ≡ steps.Done reply → is_short f key call now ≡ false) [
-            | true ↦ λ h. crowded ticket (own_refusal (shown_world old.table q).fit call) refl h
-            | false ↦ λ h. asks (release old.book (Some ticket)) h
-          ] came
+        at : (prior : Option Ticket) (outcome : Option Outcome) → prior_outcome old.book prior ≡ outcome → PriorsStand f caller call prior → (write_waits old q prior call key now (waited_for old.table key prior outcome)).step ≡ steps.Done reply → is_short f key call now ≡ false
+        at None outcome is priors came = asks old.book came
+        at (Some ticket) None is priors came = asks (release old.book (Some ticket)) came
+        at (Some ticket) (Some outcomes.Waiting) is priors came = absurd (cc)
+        at (Some ticket) (Some outcomes.Merged) is priors came = asks (release old.book (Some ticket)) came
+        at (Some ticket) (Some outcomes.Absent) is priors came =
+            let gone = prior_shows f stripe caller call key old ticket outcomes.Absent legal of_key s priors is told in
+            let none = absent_stands key (get (world_of f).docs key) gone in
+            let le : old_blocks (world_of f) key call ≤ standing_blocks key (get (world_of f).docs key) =
+            elim (needs (world_of f).eviction call && is_none (own_refusal (world_of f).fit call)) as (λ b. cond b (standing_blocks key (get (world_of f).docs key)) 0 ≤ standing_blocks key (get (world_of f).docs key)) [ true ↦ omega arith | false ↦ omega arith ] in
+            over_answered (Some ticket) None (absent_answer f stripe caller now call key written keyed legal here old q s u serving.active gone) (omega arith) reply came
+        at (Some ticket) (Some (outcomes.Failed fault)) is priors came = absurd (cc)
+        at (Some ticket) (Some outcomes.NoMemory) is priors came = absurd (cc)
+        at (Some ticket) (Some (outcomes.NoRoom blocks)) is priors came =
+            elim (has_no_room old.table key blocks) as (λ b. (write_waits old q (Some ticket) call key now (cond b (waits.Refused causes.Quota) waits.Asks)).step ≡ steps.Done reply → is_short f key call now ≡ false) [
+              | true ↦ λ h. crowded ticket (own_refusal (shown_world old.table q).fit call) refl h
+              | false ↦ λ h. asks (release old.book (Some ticket)) h
+            ] came
 
 -- A call that is answered had room for what it needs.
 pub write_has_room : (old : StripePart) (q : QueueData) (call : CallData) (key : List ℕ) (now : ℕ) (prior : Option Ticket) → written_key call ≡ Some key → IsKey key → IsStripe old.table
@@ -255,8 +257,8 @@ write_has_room old q call key now prior written keyed sound home f stripe caller
         → (cond b (write_waits old q prior call key now (waited old.table old.book key prior)) (write_over old q prior call now (shown_doc (text_at old.table key) (seen_meta (found (node_at old.table.slots key)))))).step ≡ steps.Done reply
         → is_short f key call now ≡ false
     at true lacks here' came' =
-        waits_answered f stripe caller now call key written keyed legal here' old q s u sound told serving (and_left (needs old.table.eviction call) (is_away old.table.eviction (found (node_at old.table.slots key))) lacks) prior (prior_outcome old.book prior) refl priors reply came'
+        waits_answered f stripe now call key here' old s sound told serving caller written keyed legal q u (and_left (needs old.table.eviction call) (is_away old.table.eviction (found (node_at old.table.slots key))) lacks) prior (prior_outcome old.book prior) refl priors reply came'
     at false has here' came' =
-        over_answered f stripe caller now call key written keyed legal here' old q s u sound told serving prior (shown_doc (text_at old.table key) (seen_meta (found (node_at old.table.slots key))))
+        over_answered f stripe now call key here' old s sound told serving caller written keyed legal q u prior (shown_doc (text_at old.table key) (seen_meta (found (node_at old.table.slots key))))
         (seen_answer f stripe caller now call key written keyed legal here' old q s u serving.opened serving.active has told)
-        (old_here f stripe caller now call key written keyed legal here' old q s u sound told serving has) reply came'
+        (old_here f stripe now call key here' old s sound told serving has) reply came'

@@ -1,5 +1,6 @@
 -- What a Get on its stripe comes to, and what it leaves of the stripe.
 use Rattle.std.specs.Prelude.{◌≡◌, ◌⊎◌, ℕ, ◌+◌, ◌<◌, ◌≤◌, true, false, if◌then◌else◌, List, [], length, Option, Some, None}
+use Rattle.ep_model.specs.declared.call.Reply.{Reply}
 use Rattle.ep_model.specs.declared.call.VbState.TheVariants.{Active}
 use Rattle.ep_model.specs.declared.config.Eviction.{Eviction}
 use Rattle.ep_model.specs.declared.config.Eviction.TheVariants.{Value, Full}
@@ -11,7 +12,9 @@ use Rattle.ep_model.specs.declared.data.FrontData.{FrontData}
 use Rattle.ep_model.specs.World.{live_of}
 use Rattle.ep_model.specs.Refusals.{state_refusal}
 use Rattle.ep_model.specs.Answer.{Answer, refused, answer_get}
-use Rattle.ep_model.specs.Legal.{IsLegal}
+use Rattle.ep_model.specs.Quota.{is_short}
+use Rattle.ep_model.specs.Front.{world_of}
+use Rattle.ep_model.specs.Legal.{IsServing, IsLegal}
 use Rattle.hash_stripe.specs.Nodes.{Slot, node_at, heated, others_pinned}
 use Rattle.hash_stripe.specs.Stripes.{StripeData, at_key}
 use Rattle.fetch_book.specs.declared.place.Outcome.{Outcome}
@@ -169,3 +172,9 @@ IsFreed old prior steps.FetchFull new = new ≡ release old.book prior
 pub record ReadIsExact (old : StripePart) (key : List ℕ) (prior : Option Ticket) (r : Read) : Type 0 where
   pub comes : ComesTo old key prior r.step r.part.book
   pub freed : IsFreed old prior r.step r.part.book
+
+-- Where documents are known, a Get that is answered had room. So one is refused for want of room exactly where there is none.
+abbrev pub AnsweredGetHasRoom : StripePart → List ℕ → ℕ → Option Ticket → Read → Type 0
+AnsweredGetHasRoom old key now prior r =
+    (f : FrontData) (stripe caller : ℕ) (reply : Reply) → IsLegal f → StripeStands f stripe old → PriorsStand f caller (Get key) prior
+    → (world_of f).told ≡ true → IsServing (world_of f) → r.step ≡ steps.Done reply → is_short f key (Get key) now ≡ false

@@ -12,7 +12,7 @@ ghost use Rattle.vb_front.specs.declared.step.Step.TheVariants as steps;
 ghost use Rattle.vb_front.specs.Waits.{waited, release, memory_of};
 ghost use Rattle.vb_front.specs.Priors.{key_in};
 ghost use Rattle.vb_front.specs.Reads.{KeepsStripe, read_waits, read_memory, read_step, ReadIsLegal};
-ghost use Rattle.vb_front.specs.Reads.{ReadIsExact};
+ghost use Rattle.vb_front.specs.Reads.{ReadIsExact, AnsweredGetHasRoom};
 
 use crate::part::StripePart;
 use crate::step::Step;
@@ -187,6 +187,8 @@ pub fn read(
     ensures exact { ReadIsExact part.old (key_in (call_data call.now)) prior
         (read_step part.old prior (key_in (call_data call.now)) now) }
     ensures legal { ReadIsLegal part.old (key_in (call_data call.now)) now prior
+        (read_step part.old prior (key_in (call_data call.now)) now) }
+    ensures fits { AnsweredGetHasRoom part.old (key_in (call_data call.now)) now prior
         (read_step part.old prior (key_in (call_data call.now)) now) }
 {
     let Call::Get { key } = *call else {

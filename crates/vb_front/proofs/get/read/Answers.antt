@@ -5,6 +5,7 @@ use Rattle.vb_front.specs.declared.part.StripePart.{StripePart}
 use Rattle.vb_front.specs.Priors.{key_in}
 use Rattle.vb_front.specs.Reads.{KeepsStripe, read_step}
 use Rattle.vb_front.proofs.ExactLemmas.{read_is_exact}
+use Rattle.vb_front.proofs.GetRoomLemmas.{get_has_room}
 use Rattle.vb_front.proofs.ReadLemmas.{read_is_legal, read_keeps}
 use Rattle.vb_front.proofs.get.read.Goals as goal
 
@@ -31,3 +32,6 @@ returns-clause-exact c = read_is_exact c.args.part.now (key_in (call_data c.args
 
 pub returns-clause-legal : goal.returns-clause-legal
 returns-clause-legal c = read_is_legal c.args.part.now (key_in (call_data c.args.call.now)) c.args.now c.args.prior c.requires.key c.free-free.ensures.sound c.requires.home
+
+pub returns-clause-fits : goal.returns-clause-fits
+returns-clause-fits c = get_has_room c.args.part.now (key_in (call_data c.args.call.now)) c.args.now c.args.prior c.requires.key c.free-free.ensures.sound c.requires.home
