@@ -1,5 +1,7 @@
 // Calls on held parts, with their answers written out.
 mod at_stage;
+mod held;
+mod waits;
 mod writes;
 
 ghost use Rattle.std.specs.Prelude.{◌≡◌, ◌+◌, ◌≤◌, length};
