@@ -1,5 +1,6 @@
 // Calls on held parts, with their answers written out.
 mod at_stage;
+mod generated;
 mod held;
 mod waits;
 mod writes;
