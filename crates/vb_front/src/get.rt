@@ -51,10 +51,7 @@ fn read_away(part: &mut StripePart, key: &[u8], prior: Option<Ticket>) -> Step
 {
     match wait::prior_means(&part.table, &part.book, key, prior) {
         Waited::Waits(ticket) => Step::Fetch(ticket),
-        Waited::Asks => {
-            wait::release(&mut part.book, prior);
-            wait::ask(&mut part.book, key)
-        }
+        Waited::Asks => wait::ask(&mut part.book, key, prior),
         Waited::Absent => answer(part, prior, Reply::refusal(KEY_NOT_FOUND)),
         Waited::Refused(cause) => refuse(part, prior, cause),
     }

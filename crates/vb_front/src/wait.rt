@@ -62,12 +62,13 @@ pub(crate) fn release(book: &mut Book, prior: Option<Ticket>)
     }
 }
 
-/// Asks for a document at a new place.
-pub(crate) fn ask(book: &mut Book, key: &[u8]) -> Step
+/// Asks for a document at a new place, once the call's old one is free.
+pub(crate) fn ask(book: &mut Book, key: &[u8], prior: Option<Ticket>) -> Step
     requires { IsKey key.now }
-    ensures step { result ≡ ask_step book.old }
-    ensures book { book.new ≡ ask_book book.old key.now }
+    ensures step { result ≡ ask_step (release book.old prior) }
+    ensures book { book.new ≡ ask_book (release book.old prior) key.now }
 {
+    release(book, prior);
     match book.ask(key) {
         Ok(ticket) => Step::Fetch(ticket),
         Err(_) => Step::FetchFull,

@@ -218,10 +218,7 @@ fn write_away(
 {
     match wait::prior_means(&part.table, &part.book, key, prior) {
         Waited::Waits(ticket) => Step::Fetch(ticket),
-        Waited::Asks => {
-            wait::release(&mut part.book, prior);
-            wait::ask(&mut part.book, key)
-        }
+        Waited::Asks => wait::ask(&mut part.book, key, prior),
         Waited::Absent => write_over(part, queue, call, None, now, prior, value),
         Waited::Refused(Cause::Quota) => match rules::own_refusal(
             puts::fit(&part.table, queue),
