@@ -51,7 +51,8 @@ fn empty_parts(alloc: Global) -> Result<Vec<Part>, NoMemory>
 fn one_vbucket(alloc: Global) -> Result<World<Part>, NoMemory>
     ensures config { IfOk result (λ w. w.config ≡ CONFIG) }
     ensures buckets { IfOk result (λ w. length w.buckets ≡ 1) }
-    ensures home { IfOk result (λ w. (caller : ℕ) (part : PartName) → has_out w 0 caller part ≡ false) }
+    ensures home { IfOk result (λ w. (caller : ℕ) (part : PartName) → has_out w 0 caller part
+        ≡ false) }
 {
     let mut world = World::new(alloc, &CONFIG)?;
     world.add(empty_parts(alloc)?)?;
@@ -67,7 +68,8 @@ fn tried(world: &mut World<Part>, call: &Call, value: &mut Out) -> Option<Tried>
     requires room { max_value ≤ value.old.spare + length value.old.bytes }
     ensures config { world.new.config ≡ CONFIG }
     ensures free { (part : PartName) → has_out world.new 0 7 part ≡ false }
-    ensures room { value.new.spare + length value.new.bytes ≡ value.old.spare + length value.old.bytes }
+    ensures room { value.new.spare + length value.new.bytes ≡ value.old.spare
+        + length value.old.bytes }
 {
     if world.count() != 1 {
         return None;

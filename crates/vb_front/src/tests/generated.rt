@@ -196,6 +196,7 @@ impl Both {
         }
     }
 
+    /// A generated Set, Add or Replace.
     fn stores_alike(
         &mut self,
         kind: StoreKind,
@@ -212,6 +213,7 @@ impl Both {
         self.is_answered(key, &call, now)
     }
 
+    /// A generated Append or Prepend.
     fn joins_alike(&mut self, front: bool, key: u8, more: u32, cas: u64, now: u64) -> bool
         requires { IsMoment now }
     {
@@ -220,6 +222,7 @@ impl Both {
         self.is_answered(key, &call, now)
     }
 
+    /// A generated counter.
     fn counts_alike(&mut self, down: bool, key: u8, more: u32, cas: u64, now: u64) -> bool
         requires { IsMoment now }
     {
@@ -229,6 +232,7 @@ impl Both {
         self.is_answered(key, &call, now)
     }
 
+    /// A generated Touch or Get-and-touch.
     fn touches_alike(&mut self, key: u8, expiration: u32, fetch: bool, now: u64) -> bool
         requires { IsMoment now }
     {
@@ -357,6 +361,7 @@ fn go_alike(both: &mut Both) -> bool {
     both.fetches > 100 && both.refusals > 10
 }
 
+/// Whether they do so on new parts under this eviction.
 fn meets(alloc: Global, eviction: Eviction) -> bool {
     let Some(held) = open_parts(alloc, eviction, BLOCKS, 4096) else {
         return false;

@@ -58,7 +58,8 @@ fn get_on(
     requires room { 1048576 ≤ value.old.spare + length value.old.bytes }
     ensures only { part.new.table.stripes ≡ 1 }
     ensures first { part.new.table.index ≡ 0 }
-    ensures room { value.new.spare + length value.new.bytes ≡ value.old.spare + length value.old.bytes }
+    ensures room { value.new.spare + length value.new.bytes ≡ value.old.spare
+        + length value.old.bytes }
 {
     read(part, &Call::Get { key }, now, prior, value)
 }
@@ -80,7 +81,8 @@ fn write_on(
     requires room { 1048576 ≤ value.old.spare + length value.old.bytes }
     ensures only { part.new.table.stripes ≡ 1 }
     ensures first { part.new.table.index ≡ 0 }
-    ensures room { value.new.spare + length value.new.bytes ≡ value.old.spare + length value.old.bytes }
+    ensures room { value.new.spare + length value.new.bytes ≡ value.old.spare
+        + length value.old.bytes }
 {
     write(part, queue, call, now, prior, value)
 }

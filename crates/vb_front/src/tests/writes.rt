@@ -50,7 +50,8 @@ fn answers_of_a_small_stripe(part: &mut StripePart, queue: &mut Queue, value: &m
     requires only { part.old.table.stripes ≡ 1 }
     requires first { part.old.table.index ≡ 0 }
     requires room { max_value ≤ value.old.spare + length value.old.bytes }
-    ensures room { value.new.spare + length value.new.bytes ≡ value.old.spare + length value.old.bytes }
+    ensures room { value.new.spare + length value.new.bytes ≡ value.old.spare
+        + length value.old.bytes }
 {
     let first = status(set(part, queue, b"a", 1664, value));
     let crowded = set(part, queue, b"b", 256, value);
