@@ -38,7 +38,8 @@ use Rattle.flat_parts.specs.declared.data.StripeData.{StripeData}
 use Rattle.flat_parts.specs.declared.data.Step.TheVariants as steps
 use Rattle.flat_parts.specs.Nodes.{node_at, outcome_at, is_not_numbered, released}
 use Rattle.flat_parts.specs.Steps.{read_refused, is_full, asked, read_asks, prior_outcome, read_waits, read_value, read_node, read_active, read_step}
-use Rattle.ep_drill.specs.Stands.{ValueStands, IsGone, OutcomeStands, ticket_of, PlaceStands, StripeStands, PriorStands, PriorsStand}
+use Rattle.ep_drill.specs.Stands.{ValueStands, IsGone, OutcomeStands, ticket_of, PlaceStands, StripeStands}
+use Rattle.hold_stage.specs.Priors.{PriorsStand, PriorStands}
 use Rattle.ep_drill.proofs.ReadLemmas.{AfterRead, all_filter, all_map, IsCalm, places_calm, stripe_calm, released_all, after_done, after_warming}
 
 -- a ticket above all that were asked has no failed read

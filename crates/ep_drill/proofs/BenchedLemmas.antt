@@ -23,7 +23,8 @@ use Rattle.ep_drill.specs.declared.data.FetchedData.{FetchedData}
 use Rattle.ep_drill.specs.declared.part.Part.{Part}
 use Rattle.ep_drill.specs.declared.store.Flushed.{Flushed}
 use Rattle.ep_drill.specs.StoreSide.{IsTaken, IsFlushed}
-use Rattle.ep_drill.specs.Calls.{AreHome, KeptBut}
+use Rattle.ep_drill.specs.Calls.{AreHome}
+use Rattle.hold_stage.specs.Stays.{KeptBut}
 use Rattle.ep_drill.specs.Fetches.{fetched_data, IsMerged, IsRead, ReadsOldest}
 use Rattle.ep_drill.specs.Core.{BenchStands, Ready, Moved, Rested, count_of}
 use Rattle.ep_drill.specs.Works.{WasTaken, WasDropped, WasFlushed, WasFetched, WasMerged, reads_after}

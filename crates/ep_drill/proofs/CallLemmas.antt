@@ -24,9 +24,10 @@ use Rattle.flat_parts.specs.declared.data.Step.{Step}
 use Rattle.flat_parts.specs.declared.data.Step.TheVariants as steps
 use Rattle.flat_parts.specs.Steps.{read_step, write_step}
 use Rattle.hold_stage.proofs.OwnLemmas.{holds_stripe}
-use Rattle.ep_drill.specs.Stands.{ticket_of, StripeStands, QueueStands, PriorsStand}
+use Rattle.ep_drill.specs.Stands.{ticket_of, StripeStands, QueueStands}
 use Rattle.hold_stage.specs.Went.{with_noted}
-use Rattle.ep_drill.specs.Calls.{is_prior, event_of}
+use Rattle.ep_drill.specs.Calls.{event_of}
+use Rattle.hold_stage.specs.Priors.{is_prior, PriorsStand}
 use Rattle.ep_drill.proofs.ReadLemmas.{AfterStep}
 use Rattle.ep_drill.proofs.AskLemmas.{read_stands}
 use Rattle.ep_drill.proofs.SetLemmas.{AfterWrite, write_stands}
@@ -35,13 +36,13 @@ use Rattle.hold_stage.proofs.WaitLemmas.{and_left, and_right}
 pub prior_is : (prior : Option Ticket) (ticket : Ticket) → is_prior prior ticket ≡ true → prior ≡ Some ticket
 prior_is None ticket is = absurd (cc)
 prior_is (Some prior) ticket is =
-    let s = (Decides-eqb prior.stripe ticket.stripe).0 (and_left (prior.stripe == ticket.stripe) (prior.number == ticket.number) is) in
-    let n = (Decides-eqb prior.number ticket.number).0 (and_right (prior.stripe == ticket.stripe) (prior.number == ticket.number) is) in
+    let n = (Decides-eqb prior.number ticket.number).0 (and_left (prior.number == ticket.number) (prior.stripe == ticket.stripe) is) in
+    let s = (Decides-eqb prior.stripe ticket.stripe).0 (and_right (prior.number == ticket.number) (prior.stripe == ticket.stripe) is) in
     ap Some (ap (λ k. ticket_of k prior.number) s ∙ ap (λ k. ticket_of ticket.stripe k) n)
 
 pub not_prior : (prior : Option Ticket) (ticket : Ticket) → is_prior prior ticket ≡ false → prior ≡ Some ticket → ⊥
 not_prior prior ticket test is =
-    let t : is_prior (Some ticket) ticket ≡ true = ap (λ b. b && (ticket.number == ticket.number)) (same_is ticket.stripe) ∙ same_is ticket.number in
+    let t : is_prior (Some ticket) ticket ≡ true = ap (λ b. b && (ticket.stripe == ticket.stripe)) (same_is ticket.number) ∙ same_is ticket.stripe in
     let e : is_prior prior ticket ≡ true = ap (λ (o : Option Ticket). is_prior o ticket) is ∙ t in
     cc
 

@@ -17,9 +17,9 @@ use Rattle.vb_world.proofs.ListLemmas.{all-push, get_push}
 use Rattle.ep_drill.specs.declared.data.CallerData.{CallerData}
 use Rattle.flat_parts.specs.declared.data.Step.{Step}
 use Rattle.flat_parts.specs.declared.data.Step.TheVariants as steps
-use Rattle.ep_drill.specs.Stands.{PriorStands, PriorsStand}
 use Rattle.hold_stage.specs.Went.{with_noted}
-use Rattle.ep_drill.specs.Calls.{is_prior, event_of}
+use Rattle.ep_drill.specs.Calls.{event_of}
+use Rattle.hold_stage.specs.Priors.{is_prior, PriorsStand, PriorStands}
 use Rattle.ep_drill.specs.Callers.{answered_by, answered_in, calls_on, next_of, NextStands, CallerStands, after_step}
 use Rattle.ep_drill.proofs.CallLemmas.{prior_is}
 

@@ -32,8 +32,8 @@ use Rattle.flat_parts.specs.declared.data.Step.{Step}
 use Rattle.flat_parts.specs.declared.data.Step.TheVariants as steps
 use Rattle.ep_drill.specs.Parts.{part_stands}
 use Rattle.hold_stage.specs.Went.{with_noted}
-use Rattle.ep_drill.specs.Calls.{is_prior, event_of}
-use Rattle.ep_drill.specs.Stands.{PriorsStand}
+use Rattle.ep_drill.specs.Calls.{event_of}
+use Rattle.hold_stage.specs.Priors.{PriorsStand, is_prior}
 use Rattle.ep_drill.specs.Callers.{answered_by, answered_in, next_of, NextStands, CallerStands, after_step}
 use Rattle.ep_drill.specs.Core.{BenchStands, Ready, Moved, Worked, IsOn, Interleaves}
 use Rattle.ep_drill.proofs.BenchLemmas.{bench_noted, bench_new}

@@ -21,7 +21,7 @@ use Rattle.ep_model.specs.Front.{world_of, with_event, marked}
 use Rattle.ep_model.specs.Legal.{IsNoFault, May, IsLegal}
 use Rattle.hold_stage.specs.Touches.{there, same_part, touches, is_call, is_of, is_desks}
 use Rattle.hold_stage.specs.Grows.{Same, and_this, Covered, IsOwn}
-use Rattle.hold_stage.specs.Waits.{is_waiting}
+use Rattle.hold_stage.specs.Waits.{is_waiting, IsFaultWithin}
 use Rattle.hold_stage.proofs.LaterLemmas.{world_step}
 use Rattle.kv_keeper.specs.declared.data.DeskData.{DeskData}
 use Rattle.kv_keeper.specs.Content.{Content}
@@ -36,7 +36,7 @@ use Rattle.ep_drill.specs.declared.data.FoundData.TheVariants as founds
 use Rattle.ep_drill.specs.declared.part.Part.{Part}
 use Rattle.ep_drill.specs.declared.part.Part.TheVariants as parts
 use Rattle.flat_parts.specs.Nodes.{node_of, node_at, outcome_at, settled, is_waiting_outcome, first_waiting}
-use Rattle.ep_drill.specs.Stands.{IsGone, OutcomeStands, ticket_of, PlaceStands, StripeStands, IsFaultWithin, DeskStands, FoundStands, FetchedStands}
+use Rattle.ep_drill.specs.Stands.{IsGone, OutcomeStands, ticket_of, PlaceStands, StripeStands, DeskStands, FoundStands, FetchedStands}
 use Rattle.ep_drill.specs.Parts.{Becomes}
 use Rattle.ep_drill.specs.Fetches.{settles, put_back_value, put_back_node, put_back_found, IsOldest, IsFoundIn, Reads, IsBack, HasPlace, HasOutcome, HasValue}
 use Rattle.ep_drill.proofs.AskLemmas.{place_at, ticket_is}

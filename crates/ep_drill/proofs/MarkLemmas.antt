@@ -21,7 +21,8 @@ use Rattle.ep_drill.specs.declared.part.Part.TheVariants as parts
 use Rattle.ep_drill.specs.declared.part.Part.{Part}
 use Rattle.ep_drill.specs.declared.mark.Marking.{Marking}
 use Rattle.ep_drill.specs.declared.mark.Marking.TheVariants as markings
-use Rattle.ep_drill.specs.Calls.{AreHome, KeptBut}
+use Rattle.ep_drill.specs.Calls.{AreHome}
+use Rattle.hold_stage.specs.Stays.{KeptBut}
 use Rattle.ep_drill.specs.Marks.{marked_by, IsMarked, HasMarked, MarksPart}
 use Rattle.ep_drill.specs.Parts.{part_stands, Becomes}
 use Rattle.ep_drill.specs.Stands.{StripeStands}

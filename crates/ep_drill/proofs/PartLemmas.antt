@@ -36,8 +36,8 @@ use Rattle.flat_parts.specs.declared.data.QueueData.{QueueData}
 use Rattle.flat_parts.specs.Nodes.{node_of, node_at, has_value, is_ejectable, ejected, settle_place, settled}
 use Rattle.flat_parts.specs.Steps.{page_step, restored}
 use Rattle.hold_stage.proofs.RisesLemmas.{high_rises, opened_unstored}
-use Rattle.hold_stage.specs.Waits.{IsNoRead}
-use Rattle.ep_drill.specs.Stands.{ValueStands, NodeStands, IsGone, IsAbsent, OutcomeStands, ticket_of, PlaceStands, StripeStands, QueueStands, IsFaultWithin, HoldsIfTelling, ContentStands, DeskStands, BatchStands}
+use Rattle.hold_stage.specs.Waits.{IsNoRead, IsFaultWithin, IsAbsent}
+use Rattle.ep_drill.specs.Stands.{ValueStands, NodeStands, IsGone, OutcomeStands, ticket_of, PlaceStands, StripeStands, QueueStands, HoldsIfTelling, ContentStands, DeskStands, BatchStands}
 use Rattle.hold_stage.proofs.ApartLemmas.{has_failed_later, waiting_later, mutations_step, same_table}
 use Rattle.ep_drill.proofs.ReadLemmas.{IsCalm, places_calm, stripe_calm}
 use Rattle.ep_drill.proofs.AskLemmas.{with_places, ticket_is}

@@ -16,7 +16,7 @@ use Rattle.ep_model.specs.Answer.{Answer, answer, apply, Effect}
 use Rattle.ep_model.specs.Front.{world_of, with_event, mark_after, marked}
 use Rattle.ep_model.specs.Legal.{IsUnused, IsBelow, May}
 use Rattle.ep_model.specs.Mutations.{put_by, mutation_of}
-use Rattle.hold_stage.specs.Waits.{puts_on, IsNoRead}
+use Rattle.hold_stage.specs.Waits.{puts_on, IsNoRead, IsAbsent}
 use Rattle.ep_model.proofs.EffectLemmas.{get_done}
 use Rattle.hold_stage.proofs.LaterLemmas.{same_told, world_step, all_append}
 use Rattle.hold_stage.proofs.BoundLemmas.{marked_step}
@@ -29,7 +29,7 @@ use Rattle.flat_parts.specs.declared.data.Step.{Step}
 use Rattle.flat_parts.specs.declared.data.Step.TheVariants as steps
 use Rattle.flat_parts.specs.Nodes.{is_not_numbered, released}
 use Rattle.flat_parts.specs.Steps.{read_done, read_refused}
-use Rattle.ep_drill.specs.Stands.{ValueStands, IsGone, IsAbsent, OutcomeStands, ticket_of, PlaceStands, StripeStands}
+use Rattle.ep_drill.specs.Stands.{ValueStands, IsGone, OutcomeStands, ticket_of, PlaceStands, StripeStands}
 use Rattle.hold_stage.proofs.ApartLemmas.{has_failed_later, waiting_later}
 
 -- What a call on parts comes to is legal, and leaves a stripe that stands. A ticket that was asked before is told again without an

@@ -29,7 +29,7 @@ use Rattle.ep_model.specs.Front.{begun, world_of, with_event, marked}
 use Rattle.ep_model.specs.Legal.{IsUnused, IsBelow, May, IsLegal}
 use Rattle.ep_model.proofs.ReadBackLemmas.{get-put, get-put_other}
 use Rattle.ep_model.specs.Mutations.{put_by, mutation_of, mutations, above}
-use Rattle.hold_stage.specs.Waits.{puts_on, IsNoRead}
+use Rattle.hold_stage.specs.Waits.{puts_on, IsNoRead, IsAbsent}
 use Rattle.ep_model.proofs.EffectLemmas.{IsNext, answer_is_next, call_told}
 use Rattle.hold_stage.proofs.ViewLemmas.{frame_after}
 use Rattle.hold_stage.proofs.LaterLemmas.{same_told, world_step, all_append}
@@ -45,7 +45,7 @@ use Rattle.flat_parts.specs.declared.data.Step.{Step}
 use Rattle.flat_parts.specs.declared.data.Step.TheVariants as steps
 use Rattle.flat_parts.specs.Nodes.{node_of, node_at, put_node, released, forgotten}
 use Rattle.flat_parts.specs.Steps.{shown_value, shown_docs, shown_world, stripe_after, queue_after, write_step}
-use Rattle.ep_drill.specs.Stands.{ValueStands, NodeStands, IsGone, IsAbsent, OutcomeStands, ticket_of, PlaceStands, StripeStands, QueueStands}
+use Rattle.ep_drill.specs.Stands.{ValueStands, NodeStands, IsGone, OutcomeStands, ticket_of, PlaceStands, StripeStands, QueueStands}
 use Rattle.hold_stage.proofs.ApartLemmas.{has_failed_later, waiting_later, mutations_step, same_table}
 use Rattle.ep_drill.proofs.AskLemmas.{with_places}
 use Rattle.ep_drill.proofs.ReadLemmas.{all_filter, all_map, IsCalm, places_calm, stripe_calm, released_all, released_none}

@@ -18,7 +18,7 @@ use Rattle.ep_drill.specs.declared.data.BenchData.{BenchData}
 use Rattle.ep_drill.specs.declared.data.CoreData.{CoreData}
 use Rattle.ep_drill.specs.declared.store.Paged.{Paged}
 use Rattle.ep_drill.specs.StoreSide.{IsPaged}
-use Rattle.ep_drill.specs.Calls.{KeptBut}
+use Rattle.hold_stage.specs.Stays.{KeptBut}
 use Rattle.ep_drill.specs.Core.{bench_data, core_data, Moved, Rested, Interleaves, GoesOn, LacksRoom}
 use Rattle.ep_drill.specs.Fetches.{HasWaiting}
 use Rattle.ep_drill.specs.Stepped.{AtBench, BenchIs, IsBenched, WasPaged, Ran, RanSome, Spares, Stepped, TakesMemory}

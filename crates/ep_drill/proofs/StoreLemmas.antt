@@ -17,7 +17,7 @@ use Rattle.ep_model.specs.declared.data.StartData.{StartData}
 use Rattle.ep_model.specs.Legal.{IsBelow, IsNoFault, HasAsked, May, AreLegal, IsLegal}
 use Rattle.hold_stage.specs.Touches.{is_desks}
 use Rattle.ep_model.specs.Mutations.{mutation_of, mutations, above, laid_on}
-use Rattle.hold_stage.specs.Waits.{is_on, puts_on, is_ask, is_waiting, waits_after}
+use Rattle.hold_stage.specs.Waits.{is_on, puts_on, is_ask, is_waiting, waits_after, IsFaultWithin, IsAbsent}
 use Rattle.hold_stage.proofs.LaterLemmas.{same_told, world_step, all_append, more_events}
 use Rattle.hold_stage.proofs.GrowsLemmas.{nothing_more}
 use Rattle.hold_stage.proofs.LegalLemmas.{has_more, one_asker}
@@ -38,7 +38,7 @@ use Rattle.hold_stage.proofs.RisesLemmas.{high_rises}
 use Rattle.ep_drill.specs.declared.data.FetchedData.{FetchedData}
 use Rattle.ep_drill.specs.declared.data.FoundData.{FoundData}
 use Rattle.ep_drill.specs.declared.data.FoundData.TheVariants as founds
-use Rattle.ep_drill.specs.Stands.{QueueStands, IsAbsent, IsFaultWithin, HoldsAt, HoldsIfTelling, ContentStands, DeskStands, BatchStands, FoundStands, FetchedStands}
+use Rattle.ep_drill.specs.Stands.{QueueStands, HoldsAt, HoldsIfTelling, ContentStands, DeskStands, BatchStands, FoundStands, FetchedStands}
 use Rattle.hold_stage.proofs.WaitLemmas.{and_left, and_right, not_true, docs_apart, waiting_asked, waiting_low}
 use Rattle.hold_stage.proofs.HistoryLemmas.{batch_law}
 

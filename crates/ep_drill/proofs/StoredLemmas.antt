@@ -23,7 +23,8 @@ use Rattle.ep_drill.specs.declared.mark.Marking.{Marking}
 use Rattle.ep_drill.specs.declared.mark.Marking.TheVariants as markings
 use Rattle.ep_drill.specs.Parts.{part_stands, Becomes}
 use Rattle.hold_stage.specs.Went.{with_noted}
-use Rattle.ep_drill.specs.Calls.{AreHome, KeptBut}
+use Rattle.ep_drill.specs.Calls.{AreHome}
+use Rattle.hold_stage.specs.Stays.{KeptBut}
 use Rattle.ep_drill.specs.Marks.{marked_by, IsMarked, HasMarked, MarksPart}
 use Rattle.ep_drill.specs.StoreSide.{IsTaken}
 use Rattle.ep_drill.specs.Fetches.{fetched_data, IsRead}

@@ -14,7 +14,8 @@ use Rattle.ep_model.specs.declared.event.Ticket.{Ticket}
 use Rattle.flat_parts.specs.declared.data.Step.{Step}
 use Rattle.ep_drill.specs.declared.part.Part.{Part}
 use Rattle.hold_stage.specs.Went.{with_noted}
-use Rattle.ep_drill.specs.Calls.{event_of, AreHome, KeptBut}
+use Rattle.ep_drill.specs.Calls.{event_of, AreHome}
+use Rattle.hold_stage.specs.Stays.{KeptBut}
 use Rattle.ep_drill.specs.Core.{Ready, Moved, Rested, Worked}
 use Rattle.ep_drill.proofs.WorldLemmas.{moved_by, moved_room, rested_by, room_rests, rested_then}
 

@@ -20,7 +20,7 @@ use Rattle.ep_drill.specs.declared.owned.OwnedCall.{OwnedCall}
 use Rattle.ep_drill.specs.declared.owned.OwnedCall.TheVariants as owned
 use Rattle.ep_drill.specs.declared.owned.Loaded.{Loaded}
 use Rattle.ep_drill.specs.declared.owned.Caller.{Caller}
-use Rattle.ep_drill.specs.Stands.{PriorsStand}
+use Rattle.hold_stage.specs.Priors.{PriorsStand}
 
 -- a call without where its bytes lie
 abbrev pub owned_data : OwnedCall → CallData

@@ -14,7 +14,7 @@ use Rattle.ep_model.specs.Calls.{key_of}
 use Rattle.ep_model.specs.Front.{begun, world_of, marked}
 use Rattle.ep_model.specs.Legal.{IsSilent, IsUnused, IsBelow, IsNoFault, HasAsked, HasFailedRead}
 use Rattle.ep_model.specs.Mutations.{mutations, above}
-use Rattle.hold_stage.specs.Waits.{is_waiting, IsNoRead}
+use Rattle.hold_stage.specs.Waits.{is_waiting, IsNoRead, IsAbsent, IsFaultWithin}
 use Rattle.flat_parts.specs.declared.data.NodeData.{NodeData}
 use Rattle.flat_parts.specs.declared.data.Outcome.{Outcome}
 use Rattle.flat_parts.specs.declared.data.Outcome.TheVariants.{Waiting, Merged, Absent, Failed, NoMemory}
@@ -48,11 +48,6 @@ pub record NodeStands (f : FrontData) (stripe : ℕ) (key : List ℕ) (node : No
 abbrev pub IsGone : ℕ → Option Doc → Type 0
 IsGone mark None = Unit {0}
 IsGone mark (Some doc) = (doc.seqno ≤ mark) × (doc.deleted ≡ true)
-
--- the key has no live document to come
-abbrev pub IsAbsent : Option Doc → Type 0
-IsAbsent None = Unit {0}
-IsAbsent (Some doc) = doc.deleted ≡ true
 
 -- what became of a read is what the history says
 abbrev pub OutcomeStands : FrontData → Ticket → List ℕ → Outcome → Type 0
@@ -95,22 +90,6 @@ pub record QueueStands (f : FrontData) (q : QueueData) : Type 0 where
   pub state : q.state ≡ (world_of f).state
   pub opened : q.opened ≡ (world_of f).opened
   pub uuid : q.uuid ≡ uuid_of (world_of f).failovers
-
--- The caller's call asked at this ticket before, and no call of the caller was answered since.
-pub record PriorStands (f : FrontData) (caller : ℕ) (call : CallData) (ticket : Ticket) : Type 0 where
-  pub before : List EventData
-  pub later : List EventData
-  pub asked : f.events ≡ before ++ events.Asked ticket caller call ∷ later
-  pub silent : AllByRecursion (IsSilent caller) later
-
-abbrev pub PriorsStand : FrontData → ℕ → CallData → Option Ticket → Type 0
-PriorsStand f caller call None = Unit {0}
-PriorsStand f caller call (Some ticket) = PriorStands f caller call ticket
-
--- a failed read has a number up to this one
-abbrev pub IsFaultWithin : ℕ → EventData → Type 0
-IsFaultWithin faults (events.ReadFailed ticket fault) = (1 ≤ fault) × (fault ≤ faults)
-IsFaultWithin faults event = Unit {0}
 
 -- a store holds what the history had put at one of its numbers, as far as its documents are known
 pub record HoldsAt (f : FrontData) (content : Content) (number : ℕ) : Type 0 where

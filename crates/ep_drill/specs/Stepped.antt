@@ -18,7 +18,8 @@ use Rattle.flat_parts.specs.declared.data.Step.{Step}
 use Rattle.ep_drill.specs.declared.part.Part.{Part}
 use Rattle.ep_drill.specs.declared.store.Paged.{Paged}
 use Rattle.ep_drill.specs.StoreSide.{IsPaged}
-use Rattle.ep_drill.specs.Calls.{event_of, KeptBut}
+use Rattle.ep_drill.specs.Calls.{event_of}
+use Rattle.hold_stage.specs.Stays.{KeptBut}
 use Rattle.ep_drill.specs.Callers.{next_of, after_step, tried_of}
 use Rattle.ep_drill.specs.Fetches.{HasWaiting}
 use Rattle.ep_drill.specs.Tries.{ComesTo}

@@ -11,7 +11,7 @@ use Rattle.ep_model.specs.Front.{begun, world_of, with_event, marked}
 use Rattle.ep_model.specs.Legal.{IsUnused, IsBelow, May, IsLegal}
 use Rattle.hold_stage.specs.Touches.{touches}
 use Rattle.ep_model.specs.Mutations.{mutations, above}
-use Rattle.hold_stage.specs.Waits.{IsNoRead}
+use Rattle.hold_stage.specs.Waits.{IsNoRead, IsAbsent}
 use Rattle.hold_stage.proofs.ApartLemmas.{put_apart, unused_apart, no_read_apart, has_failed_later, waiting_later, world_stripe, world_queue, mutations_step, same_table}
 use Rattle.hold_stage.proofs.ViewLemmas.{step_mark, step_below, no_mutation}
 use Rattle.hold_stage.proofs.LaterLemmas.{same_told, all_append}
@@ -21,7 +21,7 @@ use Rattle.flat_parts.specs.declared.data.Outcome.TheVariants as outcomes
 use Rattle.flat_parts.specs.declared.data.PlaceData.{PlaceData}
 use Rattle.flat_parts.specs.declared.data.StripeData.{StripeData}
 use Rattle.flat_parts.specs.declared.data.QueueData.{QueueData}
-use Rattle.ep_drill.specs.Stands.{ValueStands, IsGone, IsAbsent, OutcomeStands, ticket_of, PlaceStands, StripeStands, QueueStands}
+use Rattle.ep_drill.specs.Stands.{ValueStands, IsGone, OutcomeStands, ticket_of, PlaceStands, StripeStands, QueueStands}
 
 outcome_keeps : (f : FrontData) (stripe number : ℕ) (key : List ℕ) (outcome : Outcome) (event : EventData) → touches f event (Stripe stripe) ≡ false → get (world_of (with_event f event)).docs key ≡ get (world_of f).docs key
     → OutcomeStands f (ticket_of stripe number) key outcome → OutcomeStands (with_event f event) (ticket_of stripe number) key outcome

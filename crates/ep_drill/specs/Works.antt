@@ -27,7 +27,7 @@ use Rattle.ep_drill.specs.declared.store.Flushed.TheVariants as flushes
 use Rattle.ep_drill.specs.declared.mark.Marking.{Marking}
 use Rattle.ep_drill.specs.StoreSide.{IsTaken, IsFlushed}
 use Rattle.ep_drill.specs.Fetches.{fetched_data, IsMerged, IsRead, ReadsOldest}
-use Rattle.ep_drill.specs.Calls.{KeptBut}
+use Rattle.hold_stage.specs.Stays.{KeptBut}
 use Rattle.ep_drill.specs.Marks.{marked_by, IsMarked}
 use Rattle.ep_drill.specs.Parts.{Becomes}
 use Rattle.ep_drill.specs.Core.{Moved, count_of}

@@ -6,13 +6,14 @@ ghost use Rattle.ep_model.specs.declared.event.PartName.TheVariants.{Stripe};
 ghost use Rattle.ep_model.specs.Limits.{max_value, IsKey, IsValue};
 ghost use Rattle.ep_model.specs.Legal.{IsLegal};
 ghost use Rattle.hold_stage.specs.Touches.{there, is_stripe, same_part};
-ghost use Rattle.hold_stage.specs.Stays.{Stays};
+ghost use Rattle.hold_stage.specs.Stays.{Stays, KeptBut};
 ghost use Rattle.hold_stage.specs.Grows.{Same, IsNone, but_this};
 ghost use Rattle.kv_keeper.specs.Content.{Content};
 ghost use Rattle.kv_keeper.specs.Desk.{IsSure};
 ghost use Rattle.flat_parts.specs.Nodes.{first_waiting};
 ghost use Rattle.ep_drill.specs.Stands.{StripeStands, DeskStands, FetchedStands};
-ghost use Rattle.ep_drill.specs.Calls.{AreHome, HasRoom, KeptBut};
+ghost use Rattle.ep_drill.specs.Calls.{AreHome};
+ghost use Rattle.hold_stage.specs.Went.{HasRoom};
 ghost use Rattle.ep_drill.specs.Fetches.{found_data, fetched_data, settles, IsOldest, IsRoom, IsFoundIn, IsBack, IsRead, IsMerged, Reads, WantsRead, ReadsOldest, HasWaiting};
 
 pub use crate::fetched::{Fetched, ReadFound, Row};

@@ -6,10 +6,9 @@ ghost use Rattle.ep_model.specs.declared.event.PartName.TheVariants.{Stripe};
 ghost use Rattle.ep_model.specs.Front.{world_of, with_event};
 ghost use Rattle.ep_model.specs.Legal.{May, IsLegal};
 ghost use Rattle.hold_stage.specs.Touches.{there, is_stripe};
-ghost use Rattle.hold_stage.specs.Stays.{Stays};
+ghost use Rattle.hold_stage.specs.Stays.{Stays, KeptBut};
 ghost use Rattle.hold_stage.specs.Grows.{Same};
 ghost use Rattle.hold_stage.specs.Went.{with_noted, Went, LeavesRoom};
-ghost use Rattle.ep_drill.specs.Calls.{KeptBut};
 ghost use Rattle.ep_drill.specs.Marks.{marked_by, HasMarked, MarksPart};
 
 use crate::hold::try_take_stripe;

@@ -10,7 +10,8 @@ ghost use Rattle.hold_stage.specs.Stays.{Stays};
 ghost use Rattle.hold_stage.specs.Grows.{Same, IsNone};
 ghost use Rattle.vb_world.specs.World.{part_in, StandBare, Sound};
 ghost use Rattle.ep_drill.specs.Parts.{part_stands};
-ghost use Rattle.ep_drill.specs.Calls.{AreHome, HasRoom};
+ghost use Rattle.ep_drill.specs.Calls.{AreHome};
+ghost use Rattle.hold_stage.specs.Went.{HasRoom};
 ghost use Rattle.ep_drill.specs.Opens.{bare_stripes, bare_list, is_below, IsNew, Added};
 
 use crate::hold::{take_desk, take_queue, take_stripe};

@@ -7,7 +7,7 @@ ghost use Rattle.ep_model.specs.Front.{world_of, with_event};
 ghost use Rattle.ep_model.specs.Legal.{May, IsLegal};
 ghost use Rattle.ep_model.specs.World.{Docs};
 ghost use Rattle.hold_stage.specs.Touches.{there, is_stripe, is_queue, is_desk};
-ghost use Rattle.hold_stage.specs.Stays.{Stays};
+ghost use Rattle.hold_stage.specs.Stays.{Stays, KeptBut};
 ghost use Rattle.hold_stage.specs.Grows.{Same, IsNone};
 ghost use Rattle.ep_model.specs.Mutations.{laid_on};
 ghost use Rattle.kv_keeper.specs.Batch.{laid, AreDistinct};
@@ -15,7 +15,8 @@ ghost use Rattle.kv_keeper.specs.declared.data.DeskData.{DeskData};
 ghost use Rattle.kv_keeper.specs.Desk.{IsSure};
 ghost use Rattle.flat_parts.specs.Steps.{page_step};
 ghost use Rattle.ep_drill.specs.Stands.{DeskStands, BatchStands};
-ghost use Rattle.ep_drill.specs.Calls.{AreHome, HasRoom, KeptBut};
+ghost use Rattle.ep_drill.specs.Calls.{AreHome};
+ghost use Rattle.hold_stage.specs.Went.{HasRoom};
 ghost use Rattle.ep_drill.specs.Parts.{Becomes};
 ghost use Rattle.ep_drill.specs.StoreSide.{IsPaged, IsTaken, IsFlushed};
 

@@ -10,11 +10,11 @@ ghost use Rattle.ep_model.specs.Config.{fit_of};
 ghost use Rattle.ep_model.specs.History.{call_data};
 ghost use Rattle.ep_model.specs.Legal.{May, IsLegal};
 ghost use Rattle.hold_stage.specs.Touches.{there, touches_call, bytes_of};
-ghost use Rattle.hold_stage.specs.Stays.{Stays};
+ghost use Rattle.hold_stage.specs.Stays.{Stays, KeptBut};
 ghost use Rattle.hold_stage.specs.Grows.{Same, IsNone, Covered, IsOwn};
-ghost use Rattle.ep_drill.specs.Stands.{PriorsStand};
-ghost use Rattle.hold_stage.specs.Went.{with_noted};
-ghost use Rattle.ep_drill.specs.Calls.{is_prior, event_of, AreHome, HasRoom, KeptBut};
+ghost use Rattle.hold_stage.specs.Went.{with_noted, HasRoom};
+ghost use Rattle.ep_drill.specs.Calls.{event_of, AreHome};
+ghost use Rattle.hold_stage.specs.Priors.{is_prior, PriorsStand};
 ghost use Rattle.ep_drill.specs.Tries.{ComesToGet, ComesToSet};
 
 use crate::hold::{take_queue, take_stripe};
@@ -22,18 +22,8 @@ use crate::part::Part;
 use ep_model::{Call, Config, Event, NoMemory, Out, PartName, StoreKind, Ticket, stripe_of};
 use flat_parts::Step;
 use flat_parts::write::write;
-use hold_stage::Stage;
+use hold_stage::{Stage, is_prior};
 use std::alloc::Global;
-
-// Whether a ticket is the one that was asked before.
-fn is_prior(prior: Option<Ticket>, ticket: Ticket) -> bool
-    ensures { result ≡ is_prior prior ticket }
-{
-    match prior {
-        Some(prior) => prior.stripe == ticket.stripe && prior.number == ticket.number,
-        None => false,
-    }
-}
 
 // Notes what a call came to, where that is an event.
 fn note_step<S: Stage<Part = Part>>(

@@ -6,3 +6,4 @@ pub mod Went
 pub mod Laws
 pub mod Waits
 pub mod Histories
+pub mod Priors

@@ -1,5 +1,5 @@
 -- What became of a document that somebody waits for.
-use Rattle.std.specs.Prelude.{◌≡◌, ℕ, Bool, false, not, ◌==◌, ◌&&◌, ◌||◌, List, [], ◌∷◌, Option, Some, None}
+use Rattle.std.specs.Prelude.{◌≡◌, ◌≤◌, ℕ, Bool, true, false, not, ◌==◌, ◌&&◌, ◌||◌, List, [], ◌∷◌, Option, Some, None}
 use Rattle.std.specs.Str.{bytes_eq}
 use Rattle.ep_model.specs.declared.event.Ticket.{Ticket}
 use Rattle.ep_model.specs.declared.data.EventData.{EventData}
@@ -40,3 +40,13 @@ is_waiting f ticket key = waits_in ticket key false (begun f) f.events
 abbrev pub IsNoRead : Ticket → EventData → Type 0
 IsNoRead ticket (ReadFailed other fault) = (other ≡ ticket) → ⊥
 IsNoRead ticket event = Unit {0}
+
+-- a failed read has a number up to this one
+abbrev pub IsFaultWithin : ℕ → EventData → Type 0
+IsFaultWithin faults (ReadFailed ticket fault) = (1 ≤ fault) × (fault ≤ faults)
+IsFaultWithin faults event = Unit {0}
+
+-- the key has no live document to come
+abbrev pub IsAbsent : Option Doc → Type 0
+IsAbsent None = Unit {0}
+IsAbsent (Some doc) = doc.deleted ≡ true

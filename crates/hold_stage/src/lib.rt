@@ -8,8 +8,10 @@
 
 pub mod histories;
 pub mod laws;
+mod prior;
 mod slots;
 mod stage;
 
+pub use prior::is_prior;
 pub use slots::slot_of;
 pub use stage::{Beginning, Stage, Stands};

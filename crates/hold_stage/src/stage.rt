@@ -20,7 +20,9 @@ use std::marker::Brand;
 pub trait Stands {
     ghost stands: { PartName → FrontData → Self → Type 0 };
 
-    ghost keeps: { (p : PartName) (f : FrontData) (event : EventData) (x : Self) → IsLegal f → May f event → touches f event p ≡ false → stands p f x → stands p (with_event f event) x };
+    ghost keeps: { (p : PartName) (f : FrontData) (event : EventData) (x : Self) → IsLegal f
+        → May f event → touches f event p ≡ false → stands p f x
+        → stands p (with_event f event) x };
 }
 
 /// Names a start, for proofs alone.
@@ -94,7 +96,9 @@ pub trait Stage {
         ensures alone { is_telling self.old ≡ true → front self.new ≡ front self.old }
         ensures was_there { is_telling self.old ≡ true → MatchResult result
             (λ x. tells self.old part ≡ Some x) (λ _. tells self.old part ≡ None) }
-        ensures tells { is_telling self.old ≡ true → (p : PartName) → there (front self.old).config p ≡ true → tells self.new p ≡ (if same_part part p then None else tells self.old p) };
+        ensures tells { is_telling self.old ≡ true → (p : PartName)
+            → there (front self.old).config p ≡ true → tells self.new p ≡
+            (if same_part part p then None else tells self.old p) };
 
     /// Notes an event, which then stands last. Every part that it touches is held, it may happen behind the front,
     /// and there is room for it.
@@ -113,7 +117,8 @@ pub trait Stage {
         ensures losses { losses self.new ≡ losses self.old }
         ensures alone { is_telling self.old ≡ true → front self.new
             ≡ with_event (front self.old) (event_data event.now) }
-        ensures tells { is_telling self.old ≡ true → (p : PartName) → tells self.new p ≡ tells self.old p };
+        ensures tells { is_telling self.old ≡ true → (p : PartName)
+            → tells self.new p ≡ tells self.old p };
 
     /// Lets the front grow by what others noted. How much it learns no clause says.
     fn look(&mut self)
@@ -126,7 +131,8 @@ pub trait Stage {
         ensures held { Same (holds self.new) (holds self.old) }
         ensures losses { losses self.new ≡ losses self.old }
         ensures alone { is_telling self.old ≡ true → front self.new ≡ front self.old }
-        ensures tells { is_telling self.old ≡ true → (p : PartName) → tells self.new p ≡ tells self.old p };
+        ensures tells { is_telling self.old ≡ true → (p : PartName)
+            → tells self.new p ≡ tells self.old p };
 
     /// Puts the start, while every part is held.
     fn begin<B: Beginning>(&mut self)
@@ -143,7 +149,8 @@ pub trait Stage {
         ensures losses { losses self.new ≡ losses self.old }
         ensures alone { is_telling self.old ≡ true → front self.new
             ≡ with_start (front self.old) (Some B.start) }
-        ensures tells { is_telling self.old ≡ true → (p : PartName) → tells self.new p ≡ tells self.old p };
+        ensures tells { is_telling self.old ≡ true → (p : PartName)
+            → tells self.new p ≡ tells self.old p };
 
     /// Gives a part back, which stands for the front.
     fn give(&mut self, part: PartName, value: Self::Part)
@@ -154,5 +161,7 @@ pub trait Stage {
         ensures front { front self.new ≡ front self.old }
         ensures held { Same (holds self.new) (but_this part (holds self.old)) }
         ensures losses { losses self.new ≡ losses self.old }
-        ensures tells { is_telling self.old ≡ true → (p : PartName) → there (front self.old).config p ≡ true → tells self.new p ≡ (if same_part part p then Some value else tells self.old p) };
+        ensures tells { is_telling self.old ≡ true → (p : PartName)
+            → there (front self.old).config p ≡ true → tells self.new p ≡
+            (if same_part part p then Some value else tells self.old p) };
 }

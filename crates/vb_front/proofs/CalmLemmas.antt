@@ -17,7 +17,7 @@ use Rattle.ep_model.specs.Front.{world_of, with_event, marked}
 use Rattle.ep_model.specs.Mutations.{put_by, mutation_of}
 use Rattle.ep_model.specs.Legal.{IsUnused}
 use Rattle.ep_model.specs.Checkpoints.{Checkpoints, queued_if, cut, all_items}
-use Rattle.hold_stage.specs.Waits.{puts_on, IsNoRead}
+use Rattle.hold_stage.specs.Waits.{puts_on, IsNoRead, IsAbsent}
 use Rattle.hold_stage.proofs.LaterLemmas.{same_told, world_step, all_append}
 use Rattle.hold_stage.proofs.BoundLemmas.{marked_step}
 use Rattle.hash_stripe.specs.Stripes.{StripeData}
@@ -25,7 +25,7 @@ use Rattle.fetch_book.specs.declared.place.Outcome.{Outcome}
 use Rattle.fetch_book.specs.declared.place.Outcome.TheVariants as outcomes
 use Rattle.fetch_book.specs.declared.place.Place.{Place}
 use Rattle.ckpt_manager.specs.declared.data.QueueData.{QueueData}
-use Rattle.vb_front.specs.Stands.{IsAwayBelow, IsGone, TableShows, TableStands, OutcomeStands, IsAbsent, IsOfBlocks, OutcomeShows, PlaceStands, IsPassed, AreItems, QueueStands}
+use Rattle.vb_front.specs.Stands.{IsAwayBelow, IsGone, TableShows, TableStands, OutcomeStands, IsOfBlocks, OutcomeShows, PlaceStands, IsPassed, AreItems, QueueStands}
 use Rattle.vb_front.specs.Apart.{failed_later, waiting_later, cut_step}
 use Rattle.vb_front.specs.Keeps.{items_keep}
 

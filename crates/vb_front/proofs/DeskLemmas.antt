@@ -20,7 +20,8 @@ use Rattle.kv_keeper.specs.declared.data.BatchData.{BatchData}
 use Rattle.kv_keeper.specs.declared.data.DeskData.{DeskData}
 use Rattle.kv_keeper.specs.Batch.{laid}
 use Rattle.kv_keeper.specs.Content.{Content}
-use Rattle.vb_front.specs.Desks.{IsFaultWithin, HoldsIfTold, ContentStands, IsDoubtWithin, DeskStands, BatchStands}
+use Rattle.vb_front.specs.Desks.{HoldsIfTold, ContentStands, IsDoubtWithin, DeskStands, BatchStands}
+use Rattle.hold_stage.specs.Waits.{IsFaultWithin}
 use Rattle.vb_front.specs.Laws.{DesksStandOn, BatchesStandOn, BatchesStandAbove, DesksStore, DesksFail, PriorsStandOn}
 
 no_fault : (faults : ℕ) (event : EventData) → is_desks event ≡ false → IsFaultWithin faults event

@@ -27,7 +27,7 @@ use Rattle.vb_front.specs.declared.part.StripePart.{StripePart}
 use Rattle.vb_front.specs.declared.step.Step.TheVariants as steps
 use Rattle.vb_front.specs.declared.wait.Waited.TheVariants as waits
 use Rattle.vb_front.specs.Stands.{StripeStands}
-use Rattle.vb_front.specs.Priors.{PriorsStand}
+use Rattle.hold_stage.specs.Priors.{PriorsStand}
 use Rattle.vb_front.specs.Waits.{Memory, Known, Away, value_memory, slot_memory, memory_of, has_no_room, prior_outcome, waited_for, release, ask_step}
 use Rattle.vb_front.specs.Writes.{is_away}
 use Rattle.vb_front.specs.Reads.{Read, read_refused, read_waits, read_memory, read_active, read_step, AnsweredGetHasRoom}

@@ -19,7 +19,7 @@ use Rattle.ep_model.specs.Mutations.{mutation_of}
 use Rattle.ep_model.specs.Front.{world_of, with_event, marked}
 use Rattle.ep_model.specs.Legal.{IsUnused, IsBelow}
 use Rattle.ep_model.proofs.ReadBackLemmas.{get-put, get-put_other}
-use Rattle.hold_stage.specs.Waits.{puts_on, IsNoRead}
+use Rattle.hold_stage.specs.Waits.{puts_on, IsNoRead, IsAbsent}
 use Rattle.hold_stage.proofs.LaterLemmas.{same_told, all_append}
 use Rattle.hash_stripe.specs.Nodes.{NodeData, Slot, node_at, is_clean, is_full_eviction, is_ejectable_slot, eject_slot, IsLeft}
 use Rattle.hash_stripe.specs.Stripes.{StripeData}
@@ -28,7 +28,7 @@ use Rattle.fetch_book.specs.declared.place.Outcome.TheVariants as outcomes
 use Rattle.fetch_book.specs.declared.place.Place.{Place}
 use Rattle.fetch_book.specs.Places.{is_not_keyed, forgotten}
 use Rattle.fetch_book.specs.Books.{BookData, next_ticket}
-use Rattle.vb_front.specs.Stands.{IsShownValue, IsAwayBelow, NodeStands, NodeShows, IsGone, TableShows, TableStands, OutcomeStands, IsAbsent, IsOfBlocks, OutcomeShows, PlaceStands, BookStands}
+use Rattle.vb_front.specs.Stands.{IsShownValue, IsAwayBelow, NodeStands, NodeShows, IsGone, TableShows, TableStands, OutcomeStands, IsOfBlocks, OutcomeShows, PlaceStands, BookStands}
 use Rattle.vb_front.specs.Apart.{failed_later, waiting_later}
 use Rattle.vb_front.proofs.AskLemmas.{all_filter, and_left, not_true}
 

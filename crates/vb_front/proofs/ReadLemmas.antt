@@ -31,8 +31,10 @@ use Rattle.fetch_book.specs.declared.place.Outcome.TheVariants as outcomes
 use Rattle.vb_front.specs.declared.part.StripePart.{StripePart}
 use Rattle.vb_front.specs.declared.wait.Waited.{Waited}
 use Rattle.vb_front.specs.declared.wait.Waited.TheVariants as waited
-use Rattle.vb_front.specs.Stands.{IsAbsent, IsOfBlocks, OutcomeShows, StripeStands}
-use Rattle.vb_front.specs.Priors.{PriorStands, PriorsStand, event_of, IsNext}
+use Rattle.vb_front.specs.Stands.{IsOfBlocks, OutcomeShows, StripeStands}
+use Rattle.hold_stage.specs.Waits.{IsAbsent}
+use Rattle.vb_front.specs.Priors.{event_of, IsNext}
+use Rattle.hold_stage.specs.Priors.{PriorsStand, PriorStands}
 use Rattle.vb_front.specs.Waits.{Memory, Known, Away, memory_of, has_no_room, prior_outcome, waited_for, release}
 use Rattle.vb_front.specs.Reads.{KeepsStripe, Read, read_done, read_refused, read_asks, read_waits, with_heated, read_memory, read_active, read_step, ReadIsLegal}
 use Rattle.vb_front.proofs.AskLemmas.{ticket_same, other_ticket}

@@ -37,8 +37,9 @@ use Rattle.ckpt_manager.specs.Queue.{kept_with}
 use Rattle.vb_front.specs.declared.part.StripePart.{StripePart}
 use Rattle.vb_front.specs.declared.step.Step.TheVariants as steps
 use Rattle.vb_front.specs.declared.wait.Waited.TheVariants as waits
-use Rattle.vb_front.specs.Stands.{IsShownValue, IsGone, IsAbsent, StripeStands, QueueStands}
-use Rattle.vb_front.specs.Priors.{PriorsStand}
+use Rattle.vb_front.specs.Stands.{IsShownValue, IsGone, StripeStands, QueueStands}
+use Rattle.hold_stage.specs.Waits.{IsAbsent}
+use Rattle.hold_stage.specs.Priors.{PriorsStand}
 use Rattle.vb_front.specs.Waits.{has_no_room, prior_outcome, waited_for, waited, release, ask_step}
 use Rattle.vb_front.specs.Writes.{shown_world, seen_meta, shown_doc, text_at, is_away, row_of, Stays, Write, lacks_room, write_refused, write_put, write_effect, write_over, write_crowded, write_waits, write_found, write_active, write_step, AnsweredHasRoom}
 use Rattle.vb_front.proofs.AskLemmas.{and_left}

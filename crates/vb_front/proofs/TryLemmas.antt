@@ -30,7 +30,8 @@ use Rattle.vb_front.specs.declared.part.Part.TheVariants as parts
 use Rattle.vb_front.specs.declared.step.Step.{Step}
 use Rattle.vb_front.specs.Parts.{part_stands, part_keeps}
 use Rattle.vb_front.specs.Stands.{StripeStands, QueueStands}
-use Rattle.vb_front.specs.Priors.{key_in, PriorStands, PriorsStand, event_of, IsNext}
+use Rattle.vb_front.specs.Priors.{key_in, event_of, IsNext}
+use Rattle.hold_stage.specs.Priors.{PriorsStand, PriorStands}
 use Rattle.vb_front.specs.Reads.{Read, ReadIsLegal}
 use Rattle.vb_front.specs.Controls.{Control, ControlIsLegal}
 use Rattle.vb_front.specs.Writes.{Write, write_step, WriteIsLegal, AnsweredHasRoom}

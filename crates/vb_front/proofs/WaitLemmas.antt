@@ -34,7 +34,8 @@ use Rattle.fetch_book.specs.Books.{BookData, is_full, next_ticket, asked_place, 
 use Rattle.vb_front.specs.declared.part.StripePart.{StripePart}
 use Rattle.vb_front.specs.declared.step.Step.TheVariants as steps
 use Rattle.vb_front.specs.Stands.{IsShownValue, IsAwayBelow, NodeShows, IsGone, TableShows, TableStands, OutcomeStands, PlaceStands, StripeStands}
-use Rattle.vb_front.specs.Priors.{PriorStands, PriorsStand, is_prior, event_of, IsNext}
+use Rattle.vb_front.specs.Priors.{event_of, IsNext}
+use Rattle.hold_stage.specs.Priors.{is_prior, PriorsStand, PriorStands}
 use Rattle.vb_front.specs.Waits.{Known, Away, value_memory, slot_memory, memory_of, prior_outcome, release, ask_step, ask_book}
 use Rattle.vb_front.proofs.CalmLemmas.{IsCalm, calm_called, calm_refused, calm_asked, table_calm, places_calm}
 use Rattle.vb_front.proofs.AskLemmas.{all_filter, all_map, all_of, ticket_is, released_all, released_none, release_stripe, release_next, found_place, below_asked, new_place}

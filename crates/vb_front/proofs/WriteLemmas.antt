@@ -44,7 +44,8 @@ use Rattle.vb_front.specs.declared.step.Step.{Step}
 use Rattle.vb_front.specs.declared.step.Step.TheVariants as steps
 use Rattle.vb_front.specs.declared.wait.Waited.TheVariants as waits
 use Rattle.vb_front.specs.Stands.{TableStands, BookStands, StripeStands, QueueStands, OutcomeShows}
-use Rattle.vb_front.specs.Priors.{PriorsStand, is_prior, event_of, IsNext}
+use Rattle.vb_front.specs.Priors.{event_of, IsNext}
+use Rattle.hold_stage.specs.Priors.{is_prior, PriorsStand}
 use Rattle.vb_front.specs.Queues.{IsPutBy, PutsNothing}
 use Rattle.vb_front.specs.Waits.{Away, value_memory, slot_memory, has_no_room, prior_outcome, waited_for, waited, release, ask_step, ask_book}
 use Rattle.vb_front.specs.Writes.{shown_world, seen_meta, shown_doc, text_at, is_away, row_of, Act, Stays, Write, forget, write_done, write_refused, lacks_room, write_put, write_effect, write_over, write_crowded, write_waits, write_active, write_step, node_of, LeavesSlots, Queues, Leaves, WriteIsLegal}

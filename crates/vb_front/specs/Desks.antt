@@ -6,16 +6,12 @@ use Rattle.ep_model.specs.declared.data.EventData.TheVariants as events
 use Rattle.ep_model.specs.declared.data.FrontData.{FrontData}
 use Rattle.ep_model.specs.Front.{world_of}
 use Rattle.hold_stage.specs.Histories.{world_at}
+use Rattle.hold_stage.specs.Waits.{IsFaultWithin}
 use Rattle.kv_keeper.specs.declared.data.BatchData.{BatchData}
 use Rattle.kv_keeper.specs.declared.data.DeskData.{DeskData}
 use Rattle.kv_keeper.specs.Batch.{laid}
 use Rattle.kv_keeper.specs.Content.{Content, KeeperData}
 use Rattle.kv_keeper.specs.Desk.{IsSure}
-
--- a failed read has a number up to this one
-abbrev pub IsFaultWithin : ℕ → EventData → Type 0
-IsFaultWithin faults (events.ReadFailed ticket fault) = (1 ≤ fault) × (fault ≤ faults)
-IsFaultWithin faults event = Unit {0}
 
 -- a store holds what the history had put at one of its numbers
 pub record HoldsAt (f : FrontData) (content : Content) (number : ℕ) : Type 0 where

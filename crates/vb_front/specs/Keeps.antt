@@ -12,7 +12,7 @@ use Rattle.ep_model.specs.Stripes.{stripe_of}
 use Rattle.ep_model.specs.Front.{world_of, with_event, marked}
 use Rattle.ep_model.specs.Legal.{IsUnused, IsBelow, May, IsLegal}
 use Rattle.ep_model.specs.Checkpoints.{Checkpoints, cut, all_items}
-use Rattle.hold_stage.specs.Waits.{IsNoRead}
+use Rattle.hold_stage.specs.Waits.{IsNoRead, IsAbsent}
 use Rattle.hold_stage.specs.Touches.{touches}
 use Rattle.hold_stage.proofs.ViewLemmas.{SameStripe, frame_step, step_mark, step_below}
 use Rattle.hold_stage.proofs.LaterLemmas.{same_told, world_step, all_append}
@@ -26,7 +26,7 @@ use Rattle.fetch_book.specs.Books.{BookData, next_ticket}
 use Rattle.ckpt_items.specs.declared.data.ItemData.{ItemData}
 use Rattle.ckpt_manager.specs.declared.data.QueueData.{QueueData}
 use Rattle.vb_front.specs.declared.part.StripePart.{StripePart}
-use Rattle.vb_front.specs.Stands.{IsAwayBelow, NodeStands, NodeShows, IsGone, TableShows, TableStands, OutcomeStands, IsAbsent, IsOfBlocks, OutcomeShows, PlaceStands, BookStands, StripeStands, IsItem, AreItems, IsPassed, QueueStands}
+use Rattle.vb_front.specs.Stands.{IsAwayBelow, NodeStands, NodeShows, IsGone, TableShows, TableStands, OutcomeStands, IsOfBlocks, OutcomeShows, PlaceStands, BookStands, StripeStands, IsItem, AreItems, IsPassed, QueueStands}
 use Rattle.vb_front.specs.Apart.{put_apart, unused_apart, no_read_apart, failed_later, waiting_later, world_stripe, world_queue, same_cut, world_desk}
 
 -- a stripe whose mark and documents an event leaves

@@ -18,7 +18,7 @@ use Rattle.kv_keeper.specs.declared.data.DeskData.{DeskData}
 use Rattle.vb_front.specs.declared.part.StripePart.{StripePart}
 use Rattle.vb_front.specs.Stands.{StripeStands, QueueStands}
 use Rattle.vb_front.specs.Desks.{DeskStands, BatchStands}
-use Rattle.vb_front.specs.Priors.{PriorStands}
+use Rattle.hold_stage.specs.Priors.{PriorStands}
 
 -- nothing has happened yet behind a start, or before one is put
 abbrev pub unbegun : Config → ℕ → Option StartData → FrontData

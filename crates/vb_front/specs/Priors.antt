@@ -10,28 +10,13 @@ use Rattle.ep_model.specs.declared.data.FrontData.{FrontData}
 use Rattle.ep_model.specs.Calls.{key_of}
 use Rattle.ep_model.specs.Front.{with_event}
 use Rattle.ep_model.specs.Legal.{IsSilent, May}
+use Rattle.hold_stage.specs.Priors.{is_prior}
 use Rattle.vb_front.specs.declared.step.Step.{Step}
 use Rattle.vb_front.specs.declared.step.Step.TheVariants as steps
 
 -- the key of a call, and of one without a key nothing
 abbrev pub key_in : CallData → List ℕ
 key_in call = unwrap_or (key_of call) []
-
--- The caller's call asked at this ticket, and no call of the caller was answered since.
-pub record PriorStands (f : FrontData) (caller : ℕ) (call : CallData) (ticket : Ticket) : Type 0 where
-  pub before : List EventData
-  pub later : List EventData
-  pub asked : f.events ≡ before ++ events.Asked ticket caller call ∷ later
-  pub silent : AllByRecursion (IsSilent caller) later
-
-abbrev pub PriorsStand : FrontData → ℕ → CallData → Option Ticket → Type 0
-PriorsStand f caller call None = Unit {0}
-PriorsStand f caller call (Some ticket) = PriorStands f caller call ticket
-
--- the ticket is the one that the call had
-abbrev pub is_prior : Option Ticket → Ticket → Bool
-is_prior None ticket = false
-is_prior (Some prior) ticket = prior.number == ticket.number && prior.stripe == ticket.stripe
 
 -- What a call notes: that it was answered or refused, or that it asked. One that waits on at its ticket, or can't wait, notes
 -- nothing.

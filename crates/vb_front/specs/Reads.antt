@@ -27,7 +27,8 @@ use Rattle.vb_front.specs.declared.step.Step.TheVariants as steps
 use Rattle.vb_front.specs.declared.wait.Waited.{Waited}
 use Rattle.vb_front.specs.declared.wait.Waited.TheVariants as waits
 use Rattle.vb_front.specs.Stands.{StripeStands}
-use Rattle.vb_front.specs.Priors.{PriorsStand, event_of, IsNext}
+use Rattle.vb_front.specs.Priors.{event_of, IsNext}
+use Rattle.hold_stage.specs.Priors.{PriorsStand}
 use Rattle.vb_front.specs.Waits.{Memory, Known, Away, memory_of, prior_outcome, waited, release, ask_step, ask_book}
 
 -- what it comes to, the value of its answer, and the stripe

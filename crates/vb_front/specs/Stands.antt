@@ -12,7 +12,7 @@ use Rattle.ep_model.specs.Stripes.{stripe_of}
 use Rattle.ep_model.specs.Front.{world_of, marked}
 use Rattle.ep_model.specs.Legal.{IsUnused, IsBelow, HasFailedRead}
 use Rattle.ep_model.specs.Checkpoints.{cut, all_items}
-use Rattle.hold_stage.specs.Waits.{is_waiting, IsNoRead}
+use Rattle.hold_stage.specs.Waits.{is_waiting, IsNoRead, IsAbsent}
 use Rattle.hash_stripe.specs.Nodes.{NodeData, node_at}
 use Rattle.hash_stripe.specs.Stripes.{StripeData}
 use Rattle.fetch_book.specs.declared.place.Outcome.{Outcome}
@@ -88,11 +88,6 @@ OutcomeStands f ticket Absent = Unit {0}
 OutcomeStands f ticket (Failed fault) = HasFailedRead f.events ticket fault
 OutcomeStands f ticket NoMemory = Unit {0}
 OutcomeStands f ticket (NoRoom blocks) = Unit {0}
-
--- there is no document, or a deleted one
-abbrev pub IsAbsent : Option Doc → Type 0
-IsAbsent None = Unit {0}
-IsAbsent (Some doc) = doc.deleted ≡ true
 
 -- the document takes so many blocks, and isn't deleted
 abbrev pub IsOfBlocks : List ℕ → ℕ → Option Doc → Type 0

@@ -19,7 +19,8 @@ use Rattle.ep_model.specs.Statuses.{status_of}
 use Rattle.ep_model.specs.Stripes.{stripe_of}
 use Rattle.hold_stage.specs.Touches.{there, touches_call}
 use Rattle.hold_stage.specs.Grows.{Among, Grown}
-use Rattle.hold_stage.specs.Went.{with_noted, Went, LeavesRoom}
+use Rattle.hold_stage.specs.Went.{with_noted, Went, LeavesRoom, WasElsewhere}
+use Rattle.hold_stage.specs.Stays.{KeptBut}
 use Rattle.ep_edge.specs.declared.gate.Point.{Point}
 use Rattle.ep_edge.specs.declared.gate.Point.TheVariants.{InStripe, Answered}
 use Rattle.ckpt_manager.specs.declared.data.QueueData.{QueueData}
@@ -42,14 +43,6 @@ use Rattle.vb_front.specs.WriteSteps.{WriteIsExact}
 -- room for the key and the value of a call, and for the value of its answer
 abbrev pub call_bytes : ℕ
 call_bytes = event_bytes + max_value
-
--- there is room for an event of at most so many bytes
-abbrev pub HasRoom : ℕ → (ℕ → ℕ → Type 0) → Type 0
-HasRoom most covers = (n b : ℕ) → n ≤ 1 → b ≤ most → covers n b
-
--- of the parts that a vBucket has, all but those that may be touched are as they were
-abbrev pub KeptBut : {P : Type 0} → Config → (PartName → Bool) → (PartName → Option P) → (PartName → Option P) → Type 0
-KeptBut config touched old new = (p : PartName) → there config p ≡ true → touched p ≡ false → new p ≡ old p
 
 -- the event of what a call came to, and none where it found a part taken
 abbrev pub event_by : ℕ → CallData → ℕ → Option Ticket → List ℕ → Result Step Busy → Option EventData
@@ -96,14 +89,6 @@ pub record GetsFrom (old new : Option Part) (prior : Option Ticket) (key : List 
 pub record IsOut (config : Config) (part : PartName) (old new : PartName → Option Part) : Type 0 where
   pub out : old part ≡ None
   pub same : (p : PartName) → there config p ≡ true → new p ≡ old p
-
--- Somebody else had a part, which a stage found on its way: when it held what it had held, and maybe more, and others may
--- have noted something.
-pub record WasElsewhere {A : Type 0} (front : A → FrontData) (holds : A → PartName → Bool) (number : A → ℕ) (is_desk : A → Bool) (is_elsewhere : A → PartName → Type 0) (old : A) (part : PartName) : Type 0 where
-  pub at : A
-  pub grown : Grown (front old) (front at) (holds old) (number old) (is_desk old)
-  pub among : Among (holds old) (holds at)
-  pub elsewhere : is_elsewhere at part
 
 -- A call on the vBucket as a whole came to what it comes to on the queue as it was taken.
 pub record Controls (f : FrontData) (held : PartName → Bool) (caller : ℕ) (desk : Bool) (id : ℕ) (call : CallData) (value : List ℕ) (step : Step) : Type 0 where

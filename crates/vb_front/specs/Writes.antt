@@ -34,7 +34,8 @@ use Rattle.vb_front.specs.declared.step.Step.TheVariants as steps
 use Rattle.vb_front.specs.declared.wait.Waited.{Waited}
 use Rattle.vb_front.specs.declared.wait.Waited.TheVariants as waits
 use Rattle.vb_front.specs.Stands.{StripeStands, QueueStands}
-use Rattle.vb_front.specs.Priors.{PriorsStand, event_of, IsNext}
+use Rattle.vb_front.specs.Priors.{event_of, IsNext}
+use Rattle.hold_stage.specs.Priors.{PriorsStand}
 use Rattle.vb_front.specs.Waits.{has_no_room, waited, release, ask_step, ask_book}
 
 -- the numbers that an answer goes by, as the parts show them

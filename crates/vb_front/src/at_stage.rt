@@ -10,13 +10,14 @@ ghost use Rattle.ep_model.specs.Legal.{May, IsLegal};
 ghost use Rattle.ep_model.specs.Limits.{IsKey, IsMoment, IsWithin, max_value};
 ghost use Rattle.ep_model.specs.Stripes.{stripe_of};
 ghost use Rattle.hold_stage.specs.Grows.{Same};
-ghost use Rattle.hold_stage.specs.Stays.{Stays};
+ghost use Rattle.hold_stage.specs.Stays.{Stays, KeptBut};
 ghost use Rattle.hold_stage.specs.Touches.{there, is_stripe, is_queue, touches_call};
-ghost use Rattle.hold_stage.specs.Went.{with_noted, Went, LeavesRoom};
+ghost use Rattle.hold_stage.specs.Went.{with_noted, Went, LeavesRoom, WasElsewhere, HasRoom};
 ghost use Rattle.vb_front.specs.Controls.{is_control};
-ghost use Rattle.vb_front.specs.Priors.{key_in, PriorsStand, is_prior, event_of};
-ghost use Rattle.vb_front.specs.Tries.{call_bytes, HasRoom, KeptBut, event_by, passed_by, Gets, GetsFrom, IsOut};
-ghost use Rattle.vb_front.specs.Tries.{Controls, ControlsFrom, Writes, WritesFrom, WasElsewhere, IsValueOf, IfBusy};
+ghost use Rattle.vb_front.specs.Priors.{key_in, event_of};
+ghost use Rattle.hold_stage.specs.Priors.{is_prior, PriorsStand};
+ghost use Rattle.vb_front.specs.Tries.{call_bytes, event_by, passed_by, Gets, GetsFrom, IsOut};
+ghost use Rattle.vb_front.specs.Tries.{Controls, ControlsFrom, Writes, WritesFrom, IsValueOf, IfBusy};
 ghost use Rattle.vb_front.specs.Tries.{kind_of, tried_by, answered_on, passed_on, Tries};
 ghost use Rattle.vb_front.specs.declared.at_stage.Kind.TheVariants.{Change};
 
@@ -28,7 +29,7 @@ use crate::step::Step;
 use crate::writes::write;
 use ep_edge::{Gate, Point};
 use ep_model::{Busy, Call, Config, Event, Out, PartName, Reply, Ticket, stripe_of};
-use hold_stage::Stage;
+use hold_stage::{Stage, is_prior};
 
 /// What a call came to at whoever takes the parts.
 #[derive(Clone, Copy, Debug, PartialEq, Eq)]
@@ -114,16 +115,6 @@ fn answered<G: Gate>(gate: &mut G, stripe: u16, came: Result<Step, Busy>) -> Tri
         gate.pass(Point::Answered(stripe));
     }
     tried
-}
-
-/// Whether a ticket is the one at which a call has asked before.
-fn is_prior(prior: Option<Ticket>, ticket: Ticket) -> bool
-    ensures { result ≡ is_prior prior ticket }
-{
-    match prior {
-        Some(prior) => prior.number == ticket.number && prior.stripe == ticket.stripe,
-        None => false,
-    }
 }
 
 /// Notes what a call came to, where that is an event.
