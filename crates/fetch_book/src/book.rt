@@ -37,7 +37,8 @@ impl Model for Book {
 
     ghost view = { λ b. record { stripe = b.stripe; next = b.next; places = b.places.items } };
 
-    ghost invariant = { λ b. IsBook (record { stripe = b.stripe; next = b.next; places = b.places.items })
+    ghost invariant = { λ b. IsBook
+        (record { stripe = b.stripe; next = b.next; places = b.places.items })
         × (64 ≤ vec_capacity b.places) };
 }
 

@@ -57,7 +57,7 @@ queue_data items high maxcas persisted state opened uuid = record {
 }
 
 -- a stripe has few places, and its numbers don't run out
-pub record IsBounded (places : List Place) (next : ℕ) : Type 0 where
+pub record HasFewPlaces (places : List Place) (next : ℕ) : Type 0 where
   pub few : length places ≤ 64
   pub numbers : next ≤ 2 ^ 56
 

@@ -43,7 +43,8 @@ impl Model for FlatQueue {
 
     ghost Value = { QueueData };
 
-    ghost view = { λ q. queue_data q.items.items q.high q.maxcas q.persisted q.state q.opened q.uuid };
+    ghost view = { λ q. queue_data q.items.items q.high q.maxcas q.persisted q.state q.opened
+        q.uuid };
 
     ghost invariant = { λ q. IsSound q.high q.maxcas };
 }

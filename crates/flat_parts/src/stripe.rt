@@ -39,13 +39,14 @@ pub struct FlatStripe {
 
 impl Model for FlatStripe {
     ghost use Rattle.flat_parts.specs.declared.data.StripeData.{StripeData};
-    ghost use Rattle.flat_parts.specs.Flat.{stripe_data, IsBounded};
+    ghost use Rattle.flat_parts.specs.Flat.{stripe_data, HasFewPlaces};
 
     ghost Value = { StripeData };
 
-    ghost view = { λ s. stripe_data s.index s.nodes.items s.mark s.state s.opened s.places.items s.next };
+    ghost view = { λ s. stripe_data s.index s.nodes.items s.mark s.state s.opened s.places.items
+        s.next };
 
-    ghost invariant = { λ s. IsBounded s.places.items s.next };
+    ghost invariant = { λ s. HasFewPlaces s.places.items s.next };
 }
 
 impl FlatStripe {
@@ -223,7 +224,8 @@ impl FlatStripe {
         ensures stripe { OnOk result (self.new
             ≡ (read_asks self.old (released self.old.places prior) key.now).stripe) }
         ensures err { OnErr result (self.new ≡ self.old) }
-        ensures memory { OnErr result ((read_asks self.old (released self.old.places prior) key.now).step
+        ensures memory { OnErr result ((read_asks
+            self.old (released self.old.places prior) key.now).step
             ≡ Step.Fetch (record { stripe = self.old.index; number = self.old.next })) }
     {
         if self.is_full_without(prior) {
@@ -258,7 +260,8 @@ impl FlatStripe {
         ensures stripe { OnOk result (self.new
             ≡ (read_waits self.old prior key.now (prior_outcome self.old prior)).stripe) }
         ensures err { OnErr result (self.new ≡ self.old) }
-        ensures memory { OnErr result ((read_waits self.old prior key.now (prior_outcome self.old prior)).step
+        ensures memory { OnErr result ((read_waits
+            self.old prior key.now (prior_outcome self.old prior)).step
             ≡ Step.Fetch (record { stripe = self.old.index; number = self.old.next })) }
     {
         match (prior, self.prior_outcome(prior)) {

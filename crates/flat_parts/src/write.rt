@@ -37,16 +37,20 @@ pub fn write(
     requires value { IsValue value.now }
     requires moment { IsMoment now }
     ensures step { IfOk result (λ step. step
-        ≡ (write_step stripe.old queue.old fit prior key.now value.now flags expiration cas now).step) }
+        ≡ (write_step stripe.old queue.old fit prior key.now value.now flags expiration
+        cas now).step) }
     ensures stripe { OnOk result (stripe.new
-        ≡ (write_step stripe.old queue.old fit prior key.now value.now flags expiration cas now).stripe) }
+        ≡ (write_step stripe.old queue.old fit prior key.now value.now flags expiration
+        cas now).stripe) }
     ensures queue { OnOk result (queue.new
-        ≡ (write_step stripe.old queue.old fit prior key.now value.now flags expiration cas now).queue) }
+        ≡ (write_step stripe.old queue.old fit prior key.now value.now flags expiration
+        cas now).queue) }
     ensures err { OnErr result ((stripe.new ≡ stripe.old) × (queue.new ≡ queue.old)) }
 
     // Memory is wanting only where the document is to be stored.
     ensures memory { OnErr result (
-        (write_step stripe.old queue.old fit prior key.now value.now flags expiration cas now).queue.high
+        (write_step stripe.old queue.old fit prior key.now value.now flags expiration
+        cas now).queue.high
         ≡ queue.old.high + 1) }
 {
     if !stripe.is_opened() {

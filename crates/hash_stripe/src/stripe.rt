@@ -143,7 +143,8 @@ impl Stripe {
     pub fn room_for(&mut self, key: &[u8], len: u32) -> Result<(), Short>
         requires key { IsKey key.now }
         requires len { len ≤ max_value }
-        ensures short { is_err result ≡ nat_lt (length self.old.slots) (others_pinned self.old.eviction self.old.mark
+        ensures short { is_err result ≡ nat_lt (length self.old.slots)
+            (others_pinned self.old.eviction self.old.mark
             key.now self.old.slots + (blocks_of (length key.now) + blocks_of len)) }
         ensures ejects { EjectsOthers self.old.eviction self.old.mark key.now
             (blocks_of (length key.now) + blocks_of len) self.old.slots self.new.slots }
@@ -196,14 +197,17 @@ impl Stripe {
         requires tombstone { meta.deleted ≡ true → value.now ≡ [] }
         requires stored { meta.seqno ≤ self.old.mark }
         requires away { IsAwayOf meta (node_at self.old.slots key.now) }
-        ensures short { is_err result ≡ nat_lt (length self.old.slots) (others_pinned self.old.eviction self.old.mark
+        ensures short { is_err result ≡ nat_lt (length self.old.slots)
+            (others_pinned self.old.eviction self.old.mark
             key.now self.old.slots + (blocks_of (length key.now) + blocks_of (length value.now))) }
         ensures rest { self.new ≡ record self.old { slots = self.new.slots } }
         ensures ok { OnOk result (Restores self.old.eviction self.old.mark
             (blocks_of (length key.now) + blocks_of (length value.now))
-            (record { key = key.now; meta = meta; value = Some value.now; age = 0 }) self.old.slots self.new.slots) }
+            (record { key = key.now; meta = meta; value = Some value.now; age = 0 })
+            self.old.slots self.new.slots) }
         ensures err { OnErr result (EjectsOthers self.old.eviction self.old.mark key.now
-            (blocks_of (length key.now) + blocks_of (length value.now)) self.old.slots self.new.slots) }
+            (blocks_of (length key.now) + blocks_of (length value.now))
+            self.old.slots self.new.slots) }
         ensures last { OnErr result (victim self.old.mark key.now self.new.slots ≡ None) }
         ensures numbers { IfErr result (λ short.
             (short.free + others_blocks key.now self.new.slots ≡ length self.new.slots)
@@ -237,7 +241,8 @@ impl Stripe {
               (record { key = key.now; meta = meta; value = None; age = 0 });
         }) }
         ensures fits { OnOk result (Fits key.now
-            (node_blocks (record { key = key.now; meta = meta; value = None; age = 0 })) self.old.slots) }
+            (node_blocks (record { key = key.now; meta = meta; value = None; age = 0 }))
+            self.old.slots) }
         ensures err { OnErr result (self.new ≡ self.old) }
         ensures numbers { IfErr result (λ short. (short.free ≡ free_of self.old)
             × (short.need ≡ blocks_of (length key.now))) }
@@ -278,7 +283,8 @@ impl Stripe {
             ≤ out.old.spare }
         ensures some { result ≡ is_some (victim self.now.mark [] self.now.slots) }
         ensures key { out.new.bytes
-            ≡ out.old.bytes ++ key_of (node_in self.now.slots (victim self.now.mark [] self.now.slots)) }
+            ≡ out.old.bytes
+            ++ key_of (node_in self.now.slots (victim self.now.mark [] self.now.slots)) }
         ensures room { out.new.spare + length out.new.bytes ≡ out.old.spare + length out.old.bytes }
     {
         match search::victim(&self.table, self.mark, &[]) {
@@ -365,7 +371,8 @@ impl Stripe {
     pub fn key_into(&self, slot: u32, into: &mut [u8; MAX_KEY]) -> Option<u8>
         ensures len { result ≡ key_len_of (at self.now.slots slot) }
         ensures key { into.new
-            ≡ key_of (at self.now.slots slot) ++ drop (length (key_of (at self.now.slots slot))) into.old }
+            ≡ key_of (at self.now.slots slot)
+            ++ drop (length (key_of (at self.now.slots slot))) into.old }
     {
         if slot >= self.table.count() {
             return None;

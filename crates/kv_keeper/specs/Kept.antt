@@ -40,11 +40,11 @@ LeavesKeeper old new Failed = new ≡ failed_keeper old
 LeavesKeeper old new NoMemory = new ≡ old
 
 -- what a read appends to its buffer: the value of the document that it found
-abbrev pub Appends : OutData → OutData → Kept (Option Meta) → Type 0
-Appends old new (Good (Some meta)) = (bytes : List ℕ) × (new.bytes ≡ old.bytes ++ bytes) × (length bytes ≡ meta.len) × (meta.len ≤ max_value)
-Appends old new (Good None) = new ≡ old
-Appends old new Failed = new ≡ old
-Appends old new NoMemory = new ≡ old
+abbrev pub AppendsFound : OutData → OutData → Kept (Option Meta) → Type 0
+AppendsFound old new (Good (Some meta)) = (bytes : List ℕ) × (new.bytes ≡ old.bytes ++ bytes) × (length bytes ≡ meta.len) × (meta.len ≤ max_value)
+AppendsFound old new (Good None) = new ≡ old
+AppendsFound old new Failed = new ≡ old
+AppendsFound old new NoMemory = new ≡ old
 
 -- the content with a batch laid over its documents, under these numbers
 abbrev pub committed : Content → BatchData → StoreState → Content

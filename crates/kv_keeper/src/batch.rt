@@ -63,7 +63,8 @@ impl Batch {
         ensures laid { OnOk result ((docs : Docs) → laid self.new.rows docs
             ≡ map.insert (laid self.old.rows docs) key.now (doc_from meta value.now)) }
         ensures count { OnOk result (length self.new.rows
-            ≡ (if has_row self.old.rows key.now then length self.old.rows else length self.old.rows + 1)) }
+            ≡ (if has_row self.old.rows key.now then length self.old.rows
+            else length self.old.rows + 1)) }
 
         ensures distinct { AreDistinct self.new.rows }
         ensures within { AreWithin self.new.rows }

@@ -7,7 +7,7 @@ ghost use Rattle.ep_model.specs.Plain.{value_of};
 ghost use Rattle.ep_model.specs.Limits.{max_value};
 ghost use Rattle.ep_model.specs.World.{meta_of};
 ghost use Rattle.kv_keeper.specs.Content.{Content};
-ghost use Rattle.kv_keeper.specs.Kept.{Appends, Commits, IfGood, LeavesKeeper, OnNoMemory, state_of};
+ghost use Rattle.kv_keeper.specs.Kept.{AppendsFound, Commits, IfGood, LeavesKeeper, OnNoMemory, state_of};
 ghost use Rattle.kv_keeper.specs.Desk.{IsSure, ReadLeaves, RoseBy, after_commit, new_desk};
 
 use crate::{Batch, Keeper, Kept, StoreState};
@@ -123,7 +123,7 @@ impl<K: Keeper> Desk<K> {
             meta ≡ option_map meta_of (map.get c.docs key.now)) }
         ensures value { IfGood result (λ _. (c : Content) → self.old.keeper.content ≡ Some c →
             value.new.bytes ≡ value.old.bytes ++ value_of (map.get c.docs key.now)) }
-        ensures appends { Appends value.old value.new result }
+        ensures appends { AppendsFound value.old value.new result }
         ensures room { value.new.spare + length value.new.bytes
             ≡ value.old.spare + length value.old.bytes }
 
@@ -134,7 +134,8 @@ impl<K: Keeper> Desk<K> {
             (result ≡ Kept.NoMemory) × (self.new ≡ self.old) }
 
         // Where the keeper's count has risen by the failed reads before, it has by those after.
-        ensures by_reads { (before : ℕ) → RoseBy self.old.read_faults before self.old.keeper.faults →
+        ensures by_reads { (before : ℕ) →
+            RoseBy self.old.read_faults before self.old.keeper.faults →
             RoseBy self.new.read_faults before self.new.keeper.faults }
     {
         if self.read_faults == u64::MAX {

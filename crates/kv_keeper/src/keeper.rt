@@ -7,7 +7,7 @@ ghost use Rattle.ep_model.specs.Plain.{value_of};
 ghost use Rattle.ep_model.specs.Limits.{max_value};
 ghost use Rattle.ep_model.specs.World.{meta_of};
 ghost use Rattle.kv_keeper.specs.Content.{Content, KeeperData};
-ghost use Rattle.kv_keeper.specs.Kept.{Appends, Commits, IfGood, LeavesKeeper, OnNoMemory, state_of};
+ghost use Rattle.kv_keeper.specs.Kept.{AppendsFound, Commits, IfGood, LeavesKeeper, OnNoMemory, state_of};
 
 use crate::Batch;
 use ep_model::{Meta, Out};
@@ -59,7 +59,7 @@ pub trait Keeper: Drop {
             value.new.bytes ≡ value.old.bytes ++ value_of (map.get c.docs key.now)) }
 
         // The same of any keeper, whether it tells what it holds or not.
-        ensures appends { Appends value.old value.new result }
+        ensures appends { AppendsFound value.old value.new result }
         ensures room { value.new.spare + length value.new.bytes
             ≡ value.old.spare + length value.old.bytes }
 

@@ -8,7 +8,7 @@ ghost use Rattle.ep_model.specs.Plain.{value_of};
 ghost use Rattle.ep_model.specs.Limits.{max_value};
 ghost use Rattle.ep_model.specs.World.{meta_of};
 ghost use Rattle.kv_keeper.specs.Content.{Content};
-ghost use Rattle.kv_keeper.specs.Kept.{Appends, Commits, IfGood, LeavesKeeper, OnNoMemory, state_of};
+ghost use Rattle.kv_keeper.specs.Kept.{AppendsFound, Commits, IfGood, LeavesKeeper, OnNoMemory, state_of};
 ghost use Rattle.kv_keeper.specs.Memory.{empty_memory, get_answer, get_bytes, after_get, memory_after_commit, keeper_of};
 
 use crate::row::Row;
@@ -83,11 +83,12 @@ impl Keeper for MemoryKeeper {
     fn get(&mut self, _alloc: Global, key: &[u8], value: &mut Out) -> Kept<Option<Meta>>
         requires key { IsKey key.now }
         requires spare { max_value ≤ value.old.spare }
-        ensures meta { IfGood result (λ meta. (c : Content) → (keeper_of self.old).content ≡ Some c →
+        ensures meta { IfGood result (λ meta. (c : Content) →
+            (keeper_of self.old).content ≡ Some c →
             meta ≡ option_map meta_of (map.get c.docs key.now)) }
         ensures value { IfGood result (λ _. (c : Content) → (keeper_of self.old).content ≡ Some c →
             value.new.bytes ≡ value.old.bytes ++ value_of (map.get c.docs key.now)) }
-        ensures appends { Appends value.old value.new result }
+        ensures appends { AppendsFound value.old value.new result }
         ensures room { value.new.spare + length value.new.bytes
             ≡ value.old.spare + length value.old.bytes }
         ensures left { LeavesKeeper (keeper_of self.old) (keeper_of self.new) result }

@@ -38,7 +38,8 @@ pub fn pinned(
 ) -> u64
     requires { 0 < stripes }
     ensures { result ≡ min (pinned_sum eviction mark
-        (filter (λ (entry : Item). is_other stripes stripe key.now entry.0) (items_data documents.now))) (2 ^ 64 - 1) }
+        (filter (λ (entry : Item). is_other stripes stripe key.now entry.0)
+        (items_data documents.now))) (2 ^ 64 - 1) }
 {
     let mut total = 0u64;
     for index in 0..documents.len() {

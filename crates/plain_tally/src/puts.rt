@@ -33,7 +33,8 @@ impl PlainWorld {
         requires value { IsValue value.now }
         requires numbers { (self.now.high + 1 < 2 ^ 64) × (self.now.maxcas + 1 < 2 ^ 64) }
         ensures { IfOk result (λ puts. option_map item_data puts
-            ≡ put_by (answer self.now (StoreData kind key.now value.now flags expiration cas) now).effect) }
+            ≡ put_by (answer
+            self.now (StoreData kind key.now value.now flags expiration cas) now).effect) }
     {
         let refused = rules::state_refusal(self.state(), true)
             .or(rules::size_refusal(self.fit(), key.len(), value.len()))

@@ -43,9 +43,11 @@ impl Model for PlainWorld {
 
     ghost coded = { coded_world };
 
-    ghost view = { λ w. world_data w.eviction w.stripes w.fit w.state w.documents.items w.high w.maxcas w.persisted };
+    ghost view = { λ w. world_data w.eviction w.stripes w.fit w.state w.documents.items w.high
+        w.maxcas w.persisted };
 
-    ghost invariant = { λ w. (0 < w.stripes) × (are_distinct (items_data w.documents.items) ≡ true) };
+    ghost invariant = { λ w. (0 < w.stripes) × (are_distinct (items_data w.documents.items)
+        ≡ true) };
 }
 
 // The first document of a key.

@@ -13,7 +13,7 @@ use Rattle.vb_world.specs.declared.data.WorldData.{WorldData}
 use Rattle.vb_world.specs.World.{front_in, part_in, has_out, no_buckets, with_bucket}
 use Rattle.vb_world.specs.History.{events_of}
 use Rattle.vb_world.proofs.PlaceLemmas.{out_pushed, out_nowhere}
-use Rattle.turn_stage.specs.Made.{noted_by, Becomes}
+use Rattle.turn_stage.specs.Made.{noted_by, StripeBecomes}
 
 pub one_stripe : (key : List ℕ) → stripe_of key 1 ≡ 0
 unfolding stripe_of
@@ -29,7 +29,7 @@ module _ {P : Type 0} where
   first_home config [] one three = absurd (omega arith)
   first_home config (x ∷ parts) one three = (x, rw one refl)
 
-  is_free : {A E : Type 0} (old new : Option P) (f : P → P) (r : Result A E) (x : P) → old ≡ Some x → Becomes old new f r → is_ok r ≡ true
+  is_free : {A E : Type 0} (old new : Option P) (f : P → P) (r : Result A E) (x : P) → old ≡ Some x → StripeBecomes old new f r → is_ok r ≡ true
   is_free old new f (Ok a) x home becomes = refl
   is_free None new f (Err e) x home becomes = absurd (cc)
   is_free (Some y) new f (Err e) x home becomes = let gone = becomes.0 in absurd (cc)
@@ -48,7 +48,7 @@ module _ {P : Type 0} where
 
   -- so a call there is refused, and that is all that happened
   pub first_refused : {A E : Type 0} (w : WorldData P) (config : Config) (parts : List P) (key : List ℕ) (new : Option P) (f : P → P) (r : Result A E) → IsFirst config parts w → config.stripes ≡ 1 → length parts ≡ 3
-      → Becomes (part_in w 0 (Stripe (stripe_of key 1))) new f r → is_ok r ≡ true
+      → StripeBecomes (part_in w 0 (Stripe (stripe_of key 1))) new f r → is_ok r ≡ true
   first_refused w config parts key new f r first one three becomes =
       let home = first_home config parts one three in
       is_free (part_in w 0 (Stripe (stripe_of key 1))) new f r home.0

@@ -23,7 +23,7 @@ use Rattle.hold_stage.proofs.LegalLemmas.{legal_later}
 use Rattle.hold_stage.proofs.StartLemmas.{legal_begun}
 use Rattle.turn_stage.specs.declared.data.View.{View}
 use Rattle.turn_stage.specs.Slots.{has}
-use Rattle.turn_stage.specs.Rule.{IsEnded, Fits, Turned}
+use Rattle.turn_stage.specs.Rule.{IsEnded, PassFits, Turned}
 use Rattle.turn_stage.specs.Plays.{Notes, Begins}
 use Rattle.turn_stage.proofs.PartLemmas.{not_both, is_false}
 use Rattle.hold_stage.proofs.GrowsLemmas.{grown_nothing, keeps_along}
@@ -88,7 +88,7 @@ module _ {P : Type 0} (stands : PartName → FrontData → P → Type 0) (keep :
         share = refl;
       })
     where
-      f : Fits s.words s.homes t.history t.given v
+      f : PassFits s.words s.homes t.history t.given v
       f = t.fits id v at live
 
       none : t.history.start ≡ None
@@ -187,7 +187,7 @@ module _ {P : Type 0} (stands : PartName → FrontData → P → Type 0) (keep :
         share = refl;
       })
     where
-      f : Fits s.words s.homes t.history t.given v
+      f : PassFits s.words s.homes t.history t.given v
       f = t.fits id v at live
 
       ended_noted : (ended : List (ℕ × FrontData)) → AllByRecursion (IsEnded t.history t.given) ended → AllByRecursion (λ e. e.0 ≢ v.caller) ended → AllByRecursion (IsEnded (with_event t.history event) t.given) ended
@@ -225,7 +225,7 @@ module _ {P : Type 0} (stands : PartName → FrontData → P → Type 0) (keep :
     },
   )
     where
-      f : Fits s.words s.homes t.history t.given v
+      f : PassFits s.words s.homes t.history t.given v
       f = t.fits id v at live
 
       kept : Keeps stands (has v.held) v.front t.history

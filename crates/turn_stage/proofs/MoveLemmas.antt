@@ -16,7 +16,7 @@ use Rattle.hold_stage.specs.Touches.{there}
 use Rattle.turn_stage.specs.declared.data.View.{View}
 use Rattle.hold_stage.specs.Slots.{slot_of}
 use Rattle.turn_stage.specs.Slots.{turn_of, has}
-use Rattle.turn_stage.specs.Rule.{IsHeld, Fits, Apart, AnySeat, IsHome, IsUnspoken, Turned}
+use Rattle.turn_stage.specs.Rule.{IsHeld, PassFits, Apart, AnySeat, IsHome, IsUnspoken, Turned}
 use Rattle.hold_stage.proofs.SlotLemmas.{slots_apart}
 use Rattle.turn_stage.proofs.PartLemmas.{not_both, is_false}
 use Rattle.turn_stage.proofs.SeatLemmas.{each_set, two_set, any_set, any_mine, shares_set}
@@ -71,9 +71,9 @@ pub record Moves {P : Type 0} (stands : PartName → FrontData → P → Type 0)
   pub home : (part : PartName) → there t.history.config part ≡ true → turn_of words t.history.config part ≡ 0 → IsHome stands homes (record t.history { start = begun; events = events }) part
   pub owned : (part : PartName) → there t.history.config part ≡ true → turn_of words t.history.config part ≢ 0
       → (has w.held part ≡ true) ⊎ ((turn_of s.words t.history.config part ≢ 0) × (has v.held part ≡ true → has w.held part ≡ true))
-  pub others : (u : View) → u.live ≡ true → Fits s.words s.homes t.history t.given u → Apart u v → Fits words homes (record t.history { start = begun; events = events }) t.given u
-  pub mine : Fits words homes (record t.history { start = begun; events = events }) t.given w
-  pub apart : (u : View) → Fits s.words s.homes t.history t.given u → Apart u v → Apart u w
+  pub others : (u : View) → u.live ≡ true → PassFits s.words s.homes t.history t.given u → Apart u v → PassFits words homes (record t.history { start = begun; events = events }) t.given u
+  pub mine : PassFits words homes (record t.history { start = begun; events = events }) t.given w
+  pub apart : (u : View) → PassFits s.words s.homes t.history t.given u → Apart u v → Apart u w
   pub longest : w.front ≡ record t.history { start = begun; events = events } ⊎ ((begun ≡ t.history.start) × (events ≡ t.history.events) × (w.front ≡ v.front))
   pub desk : v.desk ≡ true → w.desk ≡ true
   pub unspoken : (caller : ℕ) → t.given ≤ caller → IsUnspoken events caller
@@ -99,7 +99,7 @@ module _ {P : Type 0} (stands : PartName → FrontData → P → Type 0) where
             (λ (k : (turn_of s.words t.history.config part ≢ 0) × (has v.held part ≡ true → has w.held part ≡ true)).
             any_set (λ u. has u.held part ≡ true) s.views id v w at (t.owned part here k.0) (λ h. (lives, k.1 h)))
             (m.owned part here taken);
-        fits = each_set (Fits words homes history t.given) s.views id w
+        fits = each_set (PassFits words homes history t.given) s.views id w
             (λ i u other there alive. m.others u alive (t.fits i u there alive) (t.apart i id u v there at alive live other))
             (λ _. m.mine);
         apart = two_set Apart apart_turned s.views id w t.apart

@@ -24,7 +24,7 @@ use Rattle.ep_model.specs.declared.event.PartName.TheVariants.{Stripe, Queue, De
 use Rattle.turn_stage.specs.Filled.{AreFilled}
 use Rattle.hold_stage.specs.Slots.{slot_of, name_of, bare_front}
 use Rattle.turn_stage.specs.Slots.{turn_of, has}
-use Rattle.turn_stage.specs.Rule.{IsEnded, Fits, Turned, SoleTakes}
+use Rattle.turn_stage.specs.Rule.{IsEnded, PassFits, Turned, SoleTakes}
 use Rattle.turn_stage.specs.Parts.{AreParts, first_view}
 use Rattle.hold_stage.proofs.SlotLemmas.{slot_within, name_of_slot}
 use Rattle.turn_stage.proofs.PartLemmas.{not_both}
@@ -92,7 +92,7 @@ module _ {P : Type 0} (stands : PartName → FrontData → P → Type 0) where
         let k = in_place parts (slot_of config p) (let w = slot_within config p here in let c = are.count in omega arith) in
         record { value = k.0; at = k.2; fine = subst (λ (r : PartName). stands r (bare_front config id) k.0) (name_of_slot config p here) (are.stand (slot_of config p) k.0 k.1) };
     owned = λ p here taken. absurd (taken (ap (λ (l : List ℕ). slice_index l (slot_of config p + 1)) zeros ∙ all_zero (config.stripes + 3) (slot_of config p + 1)));
-    fits = λ i u at live. subst (Fits words (map some (map Some parts)) (bare_front config id) 1) (only_first (first_view config id) u i at).1 mine;
+    fits = λ i u at live. subst (PassFits words (map some (map Some parts)) (bare_front config id) 1) (only_first (first_view config id) u i at).1 mine;
     apart = λ i j x y ix jy lx ly n. absurd (n ((only_first (first_view config id) x i ix).0 ∙ sym (only_first (first_view config id) y j jy).0));
     longest = record { seat = 0; view = first_view config id; at = refl; live = refl; has = refl };
     desked = record { seat = 0; view = first_view config id; at = refl; live = refl; has = refl };
@@ -100,7 +100,7 @@ module _ {P : Type 0} (stands : PartName → FrontData → P → Type 0) where
     total = refl;
   }
     where
-      mine : Fits words (map some (map Some parts)) (bare_front config id) 1 (first_view config id)
+      mine : PassFits words (map some (map Some parts)) (bare_front config id) 1 (first_view config id)
       mine = record {
         follows = grown_nothing (bare_front config id) (λ _. false) 0 true;
         legal = legal-bare config id None;

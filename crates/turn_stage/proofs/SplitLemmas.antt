@@ -17,7 +17,7 @@ use Rattle.hold_stage.proofs.GrowsLemmas.{grown_fewer, grown_still}
 use Rattle.hold_stage.proofs.LaterLemmas.{all_append}
 use Rattle.turn_stage.specs.declared.data.View.{View}
 use Rattle.turn_stage.specs.Slots.{has}
-use Rattle.turn_stage.specs.Rule.{IsEnded, Fits, Apart, AnySeat, IsUnspoken, Turned}
+use Rattle.turn_stage.specs.Rule.{IsEnded, PassFits, Apart, AnySeat, IsUnspoken, Turned}
 use Rattle.turn_stage.specs.Plays.{longer, without_number, with_number, gives, joined_view, spent_view}
 use Rattle.turn_stage.proofs.PartLemmas.{not_both}
 use Rattle.turn_stage.proofs.SeatLemmas.{at_within, at_one, each_set, two_set, any_set, each_push, two_push, any_push, shares_set, shares_push}
@@ -55,7 +55,7 @@ grown_ended f h held caller desk g = record {
 
 module _ {P : Type 0} (stands : PartName → FrontData → P → Type 0) where
   -- one number more was given
-  fits_more : (s : State (Option P) View) (t : Turned stands s) (u v : View) → Fits s.words s.homes t.history t.given u → Apart u v → v.next < v.end → Fits s.words s.homes t.history (t.given + 1) u
+  fits_more : (s : State (Option P) View) (t : Turned stands s) (u v : View) → PassFits s.words s.homes t.history t.given u → Apart u v → v.next < v.end → PassFits s.words s.homes t.history (t.given + 1) u
   fits_more s t u v f a gives = record {
     follows = f.follows;
     legal = f.legal;
@@ -83,8 +83,8 @@ module _ {P : Type 0} (stands : PartName → FrontData → P → Type 0) where
     slotted = t.slotted;
     home = t.home;
     owned = λ p here taken. any_push (λ u. has u.held p ≡ true) left new (any_set (λ u. has u.held p ≡ true) s.views id v l at (t.owned p here taken) (λ h. (live, h)));
-    fits = each_push (Fits s.words s.homes t.history (t.given + 1)) left new
-        (each_set (Fits s.words s.homes t.history (t.given + 1)) s.views id l (λ i u other there alive. fits_more s t u v (t.fits i u there alive) (t.apart i id u v there at alive live other) number) (λ _. mine))
+    fits = each_push (PassFits s.words s.homes t.history (t.given + 1)) left new
+        (each_set (PassFits s.words s.homes t.history (t.given + 1)) s.views id l (λ i u other there alive. fits_more s t u v (t.fits i u there alive) (t.apart i id u v there at alive live other) number) (λ _. mine))
         theirs;
     apart = two_push Apart apart_turned left new
         (two_set Apart apart_turned s.views id l t.apart (λ i u other there alive _. still u (t.apart i id u v there at alive live other)))
@@ -104,13 +104,13 @@ module _ {P : Type 0} (stands : PartName → FrontData → P → Type 0) where
       left : List View
       left = set s.views id (without_number v)
 
-      f : Fits s.words s.homes t.history t.given v
+      f : PassFits s.words s.homes t.history t.given v
       f = t.fits id v at live
 
       is : v.next ≡ t.given
       is = f.numbers number
 
-      mine : Fits s.words s.homes t.history (t.given + 1) (without_number v)
+      mine : PassFits s.words s.homes t.history (t.given + 1) (without_number v)
       mine = record {
         follows = f.follows;
         legal = f.legal;
@@ -123,7 +123,7 @@ module _ {P : Type 0} (stands : PartName → FrontData → P → Type 0) where
         last = f.last;
       }
 
-      theirs : Fits s.words s.homes t.history (t.given + 1) (with_number v)
+      theirs : PassFits s.words s.homes t.history (t.given + 1) (with_number v)
       theirs = record {
         follows = grown_as v.front t.history (has v.held) v.caller v.next v.desk f.follows
             (λ more e. all_back (λ event. is_of v.next event ≡ false) v.front.events more (subst (λ (events : List EventData). IsUnspoken events v.next) e (t.unspoken v.next (let k = is in omega arith))));
@@ -149,7 +149,7 @@ module _ {P : Type 0} (stands : PartName → FrontData → P → Type 0) where
         ends = a.ends;
       }
 
-      beside : (u : View) → Fits s.words s.homes t.history t.given u → Apart u v → Apart u (with_number v)
+      beside : (u : View) → PassFits s.words s.homes t.history t.given u → Apart u v → Apart u (with_number v)
       beside u k a = record {
         parts = λ p h. refl;
         callers = λ e. let b = k.known in let c = is in absurd (omega arith);
@@ -195,7 +195,7 @@ module _ {P : Type 0} (stands : PartName → FrontData → P → Type 0) where
     home = t.home;
     owned = λ p here taken. any_joined (λ u. has u.held p ≡ true) (t.owned p here taken) (λ h. absurd (not_both (has v.held p) h (bare_v p))) (λ h. absurd (not_both (has w.held p) h (bare_w p)));
     fits = λ i u found lives. ⊎_elim
-        (λ (k : (i ≡ id) × (b ≡ u)). subst (Fits s.words s.homes t.history t.given) k.1 mine)
+        (λ (k : (i ≡ id) × (b ≡ u)). subst (PassFits s.words s.homes t.history t.given) k.1 mine)
         (λ (k : (i ≢ id) × (i ≢ other) × (get_elem? s.views i ≡ some u)). t.fits i u k.2 lives)
         (which i u found lives);
     apart = λ i j x y ix jy lx ly n. ⊎_elim
@@ -217,10 +217,10 @@ module _ {P : Type 0} (stands : PartName → FrontData → P → Type 0) where
       b : View
       b = joined_view v w
 
-      f : Fits s.words s.homes t.history t.given v
+      f : PassFits s.words s.homes t.history t.given v
       f = t.fits id v at live
 
-      g : Fits s.words s.homes t.history t.given w
+      g : PassFits s.words s.homes t.history t.given w
       g = t.fits other w there alive
 
       two : Apart v w
@@ -296,7 +296,7 @@ module _ {P : Type 0} (stands : PartName → FrontData → P → Type 0) where
           (grown_fewer w.front v.front (has w.held) (λ _. false) w.caller w.desk (λ p h. absurd (cc)) (shorter_grown w.front v.front t.history (has w.held) (has v.held) w.caller v.caller w.desk v.desk g.follows f.follows bare_w bare_v k.1)))
           order
 
-      mine : Fits s.words s.homes t.history t.given (joined_view v w)
+      mine : PassFits s.words s.homes t.history t.given (joined_view v w)
       mine = record {
         follows = follows;
         legal = on_front Rattle.ep_model.specs.Legal.IsLegal f.legal g.legal;

@@ -19,7 +19,7 @@ use Rattle.hold_stage.specs.Grows.{Grown}
 use Rattle.turn_stage.specs.declared.data.View.{View}
 use Rattle.hold_stage.specs.Slots.{slot_of, name_of}
 use Rattle.turn_stage.specs.Slots.{turn_of, has, without_part}
-use Rattle.turn_stage.specs.Rule.{IsHeld, Fits, Apart, AnySeat, IsHome, Turned, WasTaken}
+use Rattle.turn_stage.specs.Rule.{IsHeld, PassFits, Apart, AnySeat, IsHome, Turned, WasTaken}
 use Rattle.turn_stage.specs.Plays.{part_of, Looked, Won, Lost, Tried, PutDown, PickedUp, Gave, Told}
 use Rattle.hold_stage.proofs.SlotLemmas.{same_itself, slot_within, name_of_slot}
 use Rattle.turn_stage.proofs.PartLemmas.{not_both, is_false, same_or, has_more, without_less, without_this, without_other}
@@ -51,7 +51,7 @@ apart_up u v h g a = record {
 module _ {P : Type 0} (stands : PartName → FrontData → P → Type 0) (keep : (p : PartName) (f : FrontData) (event : EventData) (x : P) → IsLegal f → May f event → touches f event p ≡ false → stands p f x → stands p (with_event f event) x) where
   -- only the view changes
   viewed : (s : State (Option P) View) (t : Turned stands s) (id : ℕ) (v w : View) → get_elem? s.views id ≡ some v → v.live ≡ true → w.live ≡ true
-      → Fits s.words s.homes t.history t.given w → ((u : View) → Fits s.words s.homes t.history t.given u → Apart u v → Apart u w)
+      → PassFits s.words s.homes t.history t.given w → ((u : View) → PassFits s.words s.homes t.history t.given u → Apart u v → Apart u w)
       → (w.front ≡ t.history) ⊎ (w.front ≡ v.front) → w.held ≡ v.held → w.desk ≡ v.desk → w.share ≡ v.share
       → Turned stands (record { words = s.words; homes = s.homes; views = set s.views id w })
   viewed s t id v w at live lives mine apart front held desk share =
@@ -75,7 +75,7 @@ module _ {P : Type 0} (stands : PartName → FrontData → P → Type 0) (keep :
   read : (s : State (Option P) View) (i id : ℕ) (w : View) → Turned stands (record { words = s.words; homes = s.homes; views = set s.views id w }) → Turned stands (record { words = set s.words i (slice_index s.words i); homes = s.homes; views = set s.views id w })
   read s i id w t = subst (λ (l : List ℕ). Turned stands (record { words = l; homes = s.homes; views = set s.views id w })) (sym (set-get_or s.words i 0)) t
 
-  fits_up : (s : State (Option P) View) (t : Turned stands s) (v : View) → Fits s.words s.homes t.history t.given v → Fits s.words s.homes t.history t.given (record v { front = t.history })
+  fits_up : (s : State (Option P) View) (t : Turned stands s) (v : View) → PassFits s.words s.homes t.history t.given v → PassFits s.words s.homes t.history t.given (record v { front = t.history })
   fits_up s t v f = record {
     follows = grown_nothing t.history (has v.held) v.caller v.desk;
     legal = t.legal;
@@ -116,12 +116,12 @@ module _ {P : Type 0} (stands : PartName → FrontData → P → Type 0) (keep :
   -- the turn and the slot of one part change
   changed : (s : State (Option P) View) (t : Turned stands s) (id : ℕ) (v w : View) (part : PartName) (n : ℕ) (z : mathlib.Core.Option.Option (Option P)) → get_elem? s.views id ≡ some v → v.live ≡ true → w.live ≡ true
       → there t.history.config part ≡ true
-      → ((u : View) → Fits s.words s.homes t.history t.given u → Apart u v → has u.held part ≡ false)
+      → ((u : View) → PassFits s.words s.homes t.history t.given u → Apart u v → has u.held part ≡ false)
       → (n ≡ 0 → IsHome stands (set s.homes (slot_of t.history.config part) z) t.history part)
       → (n ≢ 0 → has w.held part ≡ true)
       → ((q : PartName) → (q ≡ part → ⊥) → has v.held q ≡ true → has w.held q ≡ true)
-      → Fits (set s.words (slot_of t.history.config part + 1) n) (set s.homes (slot_of t.history.config part) z) t.history t.given w
-      → ((u : View) → Fits s.words s.homes t.history t.given u → Apart u v → Apart u w)
+      → PassFits (set s.words (slot_of t.history.config part + 1) n) (set s.homes (slot_of t.history.config part) z) t.history t.given w
+      → ((u : View) → PassFits s.words s.homes t.history t.given u → Apart u v → Apart u w)
       → (w.front ≡ t.history) ⊎ (w.front ≡ v.front) → w.desk ≡ v.desk → w.share ≡ v.share
       → Turned stands (record { words = set s.words (slot_of v.front.config part + 1) n; homes = set s.homes (slot_of v.front.config part) z; views = set s.views id w })
   changed s t id v w part n z at live lives here alone home owned kept mine apart front desk share =
@@ -201,7 +201,7 @@ module _ {P : Type 0} (stands : PartName → FrontData → P → Type 0) (keep :
       })
       (inl refl) refl refl
     where
-      alone : (u : View) → Fits s.words s.homes t.history t.given u → Apart u v → has u.held part ≡ false
+      alone : (u : View) → PassFits s.words s.homes t.history t.given u → Apart u v → has u.held part ≡ false
       alone u f a = is_false (has u.held part) (λ h. (f.holds part h).taken free)
 
       later : (a b : Bool) → b ≡ true → (a || b) ≡ true
@@ -275,7 +275,7 @@ module _ {P : Type 0} (stands : PartName → FrontData → P → Type 0) (keep :
       st : Rattle.atomic_table.specs.Table.Step (Option P)
       st = step slots (slot_of v.front.config part + 1) 0 1 none
 
-      f : Fits s.words s.homes t.history t.given v
+      f : PassFits s.words s.homes t.history t.given v
       f = t.fits id v at live
 
       config : t.history.config ≡ v.front.config
@@ -335,7 +335,7 @@ module _ {P : Type 0} (stands : PartName → FrontData → P → Type 0) (keep :
       (λ u k a. apart_hand u v hand a)
       (inr refl) refl refl
     where
-      f : Fits s.words s.homes t.history t.given v
+      f : PassFits s.words s.homes t.history t.given v
       f = t.fits id v at live
 
       was : IsHeld s.words s.homes t.history.config v.hand part
@@ -416,7 +416,7 @@ module _ {P : Type 0} (stands : PartName → FrontData → P → Type 0) (keep :
       w : View
       w = record v { hand = None; held = without_part part v.held }
 
-      f : Fits s.words s.homes t.history t.given v
+      f : PassFits s.words s.homes t.history t.given v
       f = t.fits id v at live
 
       was : IsHeld s.words s.homes t.history.config v.hand part

@@ -40,14 +40,14 @@ HasRefused f stripe before after (Ok a) = IsUnopened (Stripe stripe) f × (after
 HasRefused f stripe before after (Err busy) = (busy.part ≡ Stripe stripe) × Rose before after
 
 -- the stripe becomes this, but where it isn't at home
-abbrev pub Becomes : {P A E : Type 0} → Option P → Option P → (P → P) → Result A E → Type 0
-Becomes None new f (Ok a) = ⊥
-Becomes (Some x) new f (Ok a) = new ≡ Some (f x)
-Becomes old new f (Err e) = (old ≡ None) × (new ≡ None)
+abbrev pub StripeBecomes : {P A E : Type 0} → Option P → Option P → (P → P) → Result A E → Type 0
+StripeBecomes None new f (Ok a) = ⊥
+StripeBecomes (Some x) new f (Ok a) = new ≡ Some (f x)
+StripeBecomes old new f (Err e) = (old ≡ None) × (new ≡ None)
 
 -- of the parts that there are, all but this stripe are as they were
-abbrev pub KeepsOthers : {P : Type 0} → Config → ℕ → (PartName → Option P) → (PartName → Option P) → Type 0
-KeepsOthers config stripe old new = (p : PartName) → there config p ≡ true → is_stripe stripe p ≡ false → new p ≡ old p
+abbrev pub KeepsOtherParts : {P : Type 0} → Config → ℕ → (PartName → Option P) → (PartName → Option P) → Type 0
+KeepsOtherParts config stripe old new = (p : PartName) → there config p ≡ true → is_stripe stripe p ≡ false → new p ≡ old p
 
 -- the key of a call, of four keys in turn
 abbrev pub key_at : ℕ → ℕ → List ℕ

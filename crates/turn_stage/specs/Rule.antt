@@ -40,7 +40,7 @@ pub record IsLonger (join : JoinData) : Type 0 where
   pub other : Grown join.second join.longer (λ _. false) join.other join.other_desk
 
 -- What is true of a pass: how the history goes on behind its front, which parts it holds, and its numbers.
-pub record Fits {P : Type 0} (words : List ℕ) (homes : List (mathlib.Core.Option.Option (Option P))) (history : FrontData) (given : ℕ) (v : View) : Type 0 where
+pub record PassFits {P : Type 0} (words : List ℕ) (homes : List (mathlib.Core.Option.Option (Option P))) (history : FrontData) (given : ℕ) (v : View) : Type 0 where
   pub follows : Grown v.front history (has v.held) v.caller v.desk
   pub legal : IsLegal v.front
   pub holds : (part : PartName) → has v.held part ≡ true → IsHeld words homes history.config v.hand part
@@ -104,7 +104,7 @@ pub record Turned {P : Type 0} (stands : PartName → FrontData → P → Type 0
   -- a part whose turn is free is at home and stands for the history; a turn that is taken is some pass's
   pub home : (part : PartName) → there history.config part ≡ true → turn_of s.words history.config part ≡ 0 → IsHome stands s.homes history part
   pub owned : (part : PartName) → there history.config part ≡ true → turn_of s.words history.config part ≢ 0 → AnySeat (λ v. has v.held part ≡ true) s.views
-  pub fits : EachSeat (Fits s.words s.homes history given) s.views
+  pub fits : EachSeat (PassFits s.words s.homes history given) s.views
   pub apart : EachTwo Apart s.views
   -- some pass knows all of it, and one is the desk's
   pub longest : AnySeat (λ v. v.front ≡ history) s.views

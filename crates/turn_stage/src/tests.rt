@@ -10,7 +10,7 @@ ghost use Rattle.hold_stage.specs.Went.{Went, LeavesRoom, with_noted};
 ghost use Rattle.vb_world.specs.History.{events_of};
 ghost use Rattle.vb_world.specs.World.{front_in, part_in, has_out};
 ghost use Rattle.turn_stage.specs.Unopened.{IsUnopened, unopened_keeps};
-ghost use Rattle.turn_stage.specs.Made.{refusal, noted_by, HasRefused, Becomes, KeepsOthers, only_if, key_at, made, MadeCalls, AreMade, HasJoined};
+ghost use Rattle.turn_stage.specs.Made.{refusal, noted_by, HasRefused, StripeBecomes, KeepsOtherParts, only_if, key_at, made, MadeCalls, AreMade, HasJoined};
 ghost use Rattle.turn_stage.specs.Parts.{AreParts, first_view};
 ghost use Rattle.turn_stage.specs.Slots.{has};
 ghost use Rattle.turn_stage.specs.Passes.{view_of, pass_data, IsPassOf};
@@ -93,11 +93,11 @@ fn refuse<S: Stage<Part = Tally>>(
         ≡ with_noted (S.front stage.old) (noted_by (refusal (S.number stage.old) key.now now)
         result) }
     ensures becomes { S.is_telling stage.old ≡ true
-        → Becomes (S.tells stage.old (Stripe (stripe_at key.now stripes)))
+        → StripeBecomes (S.tells stage.old (Stripe (stripe_at key.now stripes)))
         (S.tells stage.new (Stripe (stripe_at key.now stripes)))
         (λ x. record x { count = (x.count + 1) % 2 ^ 64 }) result }
     ensures kept { S.is_telling stage.old ≡ true
-        → KeepsOthers (S.front stage.old).config (stripe_at key.now stripes) (S.tells stage.old)
+        → KeepsOtherParts (S.front stage.old).config (stripe_at key.now stripes) (S.tells stage.old)
         (S.tells stage.new) }
 {
     let caller = stage.caller();
@@ -168,7 +168,7 @@ fn refuse_alone(
     requires bytes { length key.now ≤ world.old.byte_room }
     ensures front { front_in world.new vb ≡ with_noted (front_in world.old vb)
         (noted_by (refusal caller key.now now) result) }
-    ensures becomes { Becomes (part_in world.old vb (Stripe (stripe_at key.now stripes)))
+    ensures becomes { StripeBecomes (part_in world.old vb (Stripe (stripe_at key.now stripes)))
         (part_in world.new vb (Stripe (stripe_at key.now stripes)))
         (λ x. record x { count = (x.count + 1) % 2 ^ 64 }) result }
 {

@@ -55,7 +55,8 @@ impl Model for Pool {
 
     ghost view = { λ p. held_of p.region.items p.links.items p.lens.items p.free };
 
-    ghost invariant = { λ p. IsParted p.region.items p.links.items p.lens.items p.first_free p.free };
+    ghost invariant = { λ p. IsParted p.region.items p.links.items p.lens.items p.first_free
+        p.free };
 }
 
 impl Pool {

@@ -79,8 +79,8 @@ abbrev pub AreInside : ℕ → List (ℕ × KeptEvent) → Type 0
 AreInside n pairs = AllByRecursion (λ (p : ℕ × KeptEvent). IsEventInside n p.1) pairs
 
 -- whatever an event of the log says lies in it
-abbrev pub IsWhole : EventLog → Type 0
-IsWhole log = AreInside (length log.bytes.items) log.events.items
+abbrev pub HasAllBytes : EventLog → Type 0
+HasAllBytes log = AreInside (length log.bytes.items) log.events.items
 
 -- how many more events, and how many more bytes of them, the log takes without growing
 abbrev pub event_room : EventLog → ℕ

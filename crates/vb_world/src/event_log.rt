@@ -2,7 +2,7 @@
 ghost use Rattle.std.specs.Prelude.{◌≡◌, ◌⊎◌, ◌∷◌, [], ◌++◌, ◌+◌, ◌<◌, ◌≤◌, length, vec_len, vec_capacity, IsOk, IfOk, OnOk, OnErr, slice_get, Some};
 ghost use Rattle.ep_model.specs.History.{call_data, event_data};
 ghost use Rattle.hold_stage.specs.Touches.{bytes_of_call, bytes_of};
-ghost use Rattle.vb_world.specs.EventLog.{Extends, KeepsCall, call_in, event_in, spanned, IsInside, IsCallInside, IsEventInside, pairs_of, IsWhole, event_room, byte_room};
+ghost use Rattle.vb_world.specs.EventLog.{Extends, KeepsCall, call_in, event_in, spanned, IsInside, IsCallInside, IsEventInside, pairs_of, HasAllBytes, event_room, byte_room};
 
 use ep_model::{Call, Cause, Event, NoMemory, Reply, StoreKind, Ticket, VbState};
 use std::alloc::AllocError;
@@ -126,9 +126,11 @@ fn keep(bytes: &mut Vec<u8>, piece: &[u8]) -> Result<Span, AllocError>
 
 // Puts the bytes of two pieces behind those that are kept.
 fn keep_two(bytes: &mut Vec<u8>, key: &[u8], value: &[u8]) -> Result<(Span, Span), AllocError>
-    ensures kept { IfOk result (λ spans. (bytes.new.items ≡ (bytes.old.items ++ key.now) ++ value.now)
+    ensures kept { IfOk result (λ spans. (bytes.new.items ≡ (bytes.old.items ++ key.now)
+        ++ value.now)
         × (spans.0 ≡ record { from = length bytes.old.items; len = length key.now })
-        × (spans.1 ≡ record { from = length bytes.old.items + length key.now; len = length value.now })) }
+        × (spans.1 ≡ record { from = length bytes.old.items + length key.now;
+        len = length value.now })) }
     ensures err { OnErr result (Extends bytes.old.items bytes.new.items) }
     ensures room { vec_len bytes.old + (length key.now + length value.now) ≤ vec_capacity bytes.old
         → IsOk result }
@@ -431,8 +433,8 @@ fn lend_kept(bytes: &[u8], event: KeptEvent) -> Event<'_>
 // Notes an event of a vBucket. At an error nothing was noted. It never fails where there is room for one event and
 // its bytes.
 pub fn note(log: &mut EventLog, vb: u16, event: &Event) -> Result<(), NoMemory>
-    requires whole { IsWhole log.old }
-    ensures whole { IsWhole log.new }
+    requires whole { HasAllBytes log.old }
+    ensures whole { HasAllBytes log.new }
     ensures ok { OnOk result (pairs_of log.new ≡ pairs_of log.old ++ (vb, event_data event.now)
         ∷ []) }
     ensures err { OnErr result (pairs_of log.new ≡ pairs_of log.old) }
@@ -448,7 +450,7 @@ pub fn note(log: &mut EventLog, vb: u16, event: &Event) -> Result<(), NoMemory>
 
 // Takes room for so many more events and bytes.
 pub fn reserve(log: &mut EventLog, events: usize, bytes: usize) -> Result<(), NoMemory>
-    ensures whole { IsWhole log.old → IsWhole log.new }
+    ensures whole { HasAllBytes log.old → HasAllBytes log.new }
     ensures pairs { pairs_of log.new ≡ pairs_of log.old }
     ensures ok { OnOk result ((events ≤ event_room log.new) × (bytes ≤ byte_room log.new)) }
     ensures err { OnErr result ((event_room log.old < events) ⊎ (byte_room log.old < bytes)) }
@@ -462,7 +464,7 @@ pub fn reserve(log: &mut EventLog, events: usize, bytes: usize) -> Result<(), No
 
 // One event, counted from 0, with its vBucket.
 pub fn lend_event(log: &EventLog, index: usize) -> (u16, Event<'_>)
-    requires whole { IsWhole log.now }
+    requires whole { HasAllBytes log.now }
     requires index { index < length (pairs_of log.now) }
     ensures { slice_get (pairs_of log.now) index ≡ Some (result.0, event_data result.1) }
 {

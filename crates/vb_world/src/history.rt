@@ -1,7 +1,7 @@
 // The stored history of many vBuckets.
 ghost use Rattle.std.specs.Prelude.{◌≡◌, ◌∷◌, [], ◌++◌, ◌<◌, length, OnOk, OnErr, slice_get, Some};
 ghost use Rattle.ep_model.specs.History.{event_data};
-ghost use Rattle.vb_world.specs.EventLog.{pairs_of, IsWhole};
+ghost use Rattle.vb_world.specs.EventLog.{pairs_of, HasAllBytes};
 
 use crate::event_log;
 use crate::event_log::EventLog;
@@ -19,13 +19,13 @@ pub struct History {
 impl Model for History {
     ghost use Rattle.std.specs.Prelude.{ℕ, List};
     ghost use Rattle.ep_model.specs.declared.data.EventData.{EventData};
-    ghost use Rattle.vb_world.specs.EventLog.{pairs_of, IsWhole};
+    ghost use Rattle.vb_world.specs.EventLog.{pairs_of, HasAllBytes};
 
     ghost Value = { List (ℕ × EventData) };
 
     ghost view = { λ h. pairs_of h.log };
 
-    ghost invariant = { λ h. IsWhole h.log };
+    ghost invariant = { λ h. HasAllBytes h.log };
 }
 
 impl History {
@@ -43,7 +43,7 @@ impl History {
 
     // The events that a log holds.
     pub(crate) fn of_log(log: EventLog) -> History
-        requires { IsWhole log }
+        requires { HasAllBytes log }
         ensures { result ≡ pairs_of log }
     {
         History { log }

@@ -48,7 +48,8 @@ impl<'a, P: Stands + Drop> Stage for WorldStage<'a, P> {
 
     ghost number = { λ s. s.caller };
 
-    ghost covers = { λ s events bytes. (events ≤ s.world.now.event_room) × (bytes ≤ s.world.now.byte_room) };
+    ghost covers = { λ s events bytes. (events ≤ s.world.now.event_room)
+        × (bytes ≤ s.world.now.byte_room) };
 
     ghost losses = { λ s. s.world.now.losses };
 

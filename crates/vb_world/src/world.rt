@@ -30,7 +30,7 @@ pub struct World<P: Stands + Drop> {
 
 impl<P: Stands + Drop> Model for World<P> {
     ghost use Rattle.vb_world.specs.declared.data.WorldData.{WorldData};
-    ghost use Rattle.vb_world.specs.EventLog.{IsWhole};
+    ghost use Rattle.vb_world.specs.EventLog.{HasAllBytes};
     ghost use Rattle.vb_world.specs.Buckets.{world_data};
     ghost use Rattle.vb_world.specs.World.{Sound};
 
@@ -38,7 +38,8 @@ impl<P: Stands + Drop> Model for World<P> {
 
     ghost view = { λ w. world_data w.config w.log w.buckets.items w.losses };
 
-    ghost invariant = { λ w. IsWhole w.log × Sound P.stands (world_data w.config w.log w.buckets.items w.losses) };
+    ghost invariant = { λ w. HasAllBytes w.log × Sound P.stands
+        (world_data w.config w.log w.buckets.items w.losses) };
 }
 
 impl<P: Stands + Drop> World<P> {
