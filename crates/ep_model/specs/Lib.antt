@@ -1,5 +1,6 @@
 pub mod Limits
 pub mod Counts
+pub mod Buffer
 pub mod Statuses
 pub mod Calls
 pub mod Config

@@ -1,5 +1,6 @@
 // A byte buffer of fixed room.
 ghost use Rattle.std.specs.Prelude.{◌≡◌, ◌+◌, ◌-◌, ◌≤◌, ◌++◌, [], length, take, drop, IfOk};
+ghost use Rattle.ep_model.specs.Buffer.{put_over};
 
 use crate::NoMemory;
 use std::alloc::Global;
@@ -47,6 +48,25 @@ impl Out {
         self.len = end;
     }
 
+    /// Appends `len` bytes in constant time, which hold what the room held: they are to be put over.
+    pub fn skip(&mut self, len: usize)
+        requires { len ≤ self.old.spare }
+        ensures bytes { take (length self.old.bytes) self.new.bytes ≡ self.old.bytes }
+        ensures len { length self.new.bytes ≡ length self.old.bytes + len }
+        ensures spare { self.new.spare + len ≡ self.old.spare }
+    {
+        self.len += len;
+    }
+
+    /// Puts bytes over those that stand from `at` on. Its cost is linear in their number.
+    pub fn put_over(&mut self, at: usize, bytes: &[u8])
+        requires { at + length bytes.now ≤ length self.old.bytes }
+        ensures bytes { self.new.bytes ≡ put_over at bytes.now self.old.bytes }
+        ensures spare { self.new.spare ≡ self.old.spare }
+    {
+        write_over(&mut self.room, at, bytes);
+    }
+
     /// Keeps the first `len` bytes, in constant time.
     pub fn cut(&mut self, len: usize)
         requires { len ≤ length self.old.bytes }
@@ -79,4 +99,12 @@ impl Out {
     {
         self.room.len() - self.len
     }
+}
+
+// Puts bytes over those that stand from `at` on.
+fn write_over(buffer: &mut [u8], at: usize, bytes: &[u8])
+    requires { at + length bytes.now ≤ length buffer.old }
+    ensures { buffer.new ≡ put_over at bytes.now buffer.old }
+{
+    buffer[at..at + bytes.len()].copy_from_slice(bytes);
 }
