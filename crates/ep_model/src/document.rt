@@ -33,8 +33,14 @@ impl Draft {
 
     /// The document under these numbers.
     pub fn document(self, cas: u64, seqno: u64) -> Document
-        ensures { document_data result ≡ record blank_doc
-            { value = self.value.items; flags = self.flags; expiry = self.expiry; cas = cas; seqno = seqno; deleted = self.deleted } }
+        ensures { document_data result ≡ record blank_doc {
+          value = self.value.items;
+          flags = self.flags;
+          expiry = self.expiry;
+          cas = cas;
+          seqno = seqno;
+          deleted = self.deleted;
+        } }
     {
         let Draft {
             value,

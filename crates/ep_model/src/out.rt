@@ -20,7 +20,10 @@ impl Model for Out {
 
     ghost Value = { OutData };
 
-    ghost view = { λ o. record { bytes = take o.len o.room.items; spare = vec_len o.room - o.len } };
+    ghost view = { λ o. record {
+      bytes = take o.len o.room.items;
+      spare = vec_len o.room - o.len;
+    } };
 
     ghost invariant = { λ o. o.len ≤ vec_len o.room };
 }
