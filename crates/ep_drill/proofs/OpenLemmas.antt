@@ -117,7 +117,7 @@ stripe_bare config id stripe here = record {
 }
 
 queue_bare : (config : Config) (id : ℕ) → QueueStands (bare_front config id) (empty_queue false)
-queue_bare config id = record { items = λ told. refl; high = refl; maxcas = refl; persisted = refl; state = refl; opened = refl; uuid = refl }
+queue_bare config id = record { numbers = refl; items = λ told. refl; high = refl; maxcas = refl; persisted = refl; state = refl; opened = refl; uuid = refl }
 
 -- a part by the tests of which place it has
 abbrev named : Bool → Bool → ℕ → PartName

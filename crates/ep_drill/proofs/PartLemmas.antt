@@ -37,10 +37,12 @@ use Rattle.flat_parts.specs.Nodes.{node_of, node_at, has_value, is_ejectable, ej
 use Rattle.flat_parts.specs.Steps.{page_step, restored}
 use Rattle.hold_stage.proofs.RisesLemmas.{high_rises, opened_unstored}
 use Rattle.hold_stage.specs.Waits.{IsNoRead, IsFaultWithin, IsAbsent}
+use Rattle.ep_drill.specs.Numbers.{all_numbered}
 use Rattle.ep_drill.specs.Stands.{ValueStands, NodeStands, IsGone, OutcomeStands, ticket_of, PlaceStands, StripeStands, QueueStands, HoldsIfTelling, ContentStands, DeskStands, BatchStands}
 use Rattle.hold_stage.proofs.ApartLemmas.{has_failed_later, waiting_later, mutations_step, same_table}
 use Rattle.ep_drill.proofs.ReadLemmas.{IsCalm, places_calm, stripe_calm}
 use Rattle.ep_drill.proofs.AskLemmas.{with_places, ticket_is}
+use Rattle.ep_drill.proofs.NumbersLemmas.{above_alike}
 use Rattle.ep_drill.proofs.SetLemmas.{node_at_put}
 use Rattle.hold_stage.proofs.WaitLemmas.{and_left, and_right, not_true}
 use Rattle.ep_drill.proofs.StoreLemmas.{has_start, tells_both, tells_whole, tells_on, upto_step}
@@ -253,11 +255,12 @@ module _ (f : FrontData) (desk : DeskData) (batch : BatchData) (legal : IsLegal 
   pub persisted_queue : (q : QueueData) → QueueStands f q → QueueStands (with_event f success) (record q { items = above batch.to q.items; persisted = batch.to })
   persisted_queue q s =
       let same = world_step f success in
+      let left : above batch.to (above (world_of f).persisted (mutations (begun f) f.events)) ≡ above (world_of (with_event f success)).persisted (mutations (begun f) (with_event f success).events) =
+      above_above (world_of f).persisted batch.to (mutations (begun f) f.events) (let h = b.above in omega arith)
+      ∙ sym (ap (λ n. above n (mutations (begun f) (with_event f success).events)) persisted_is ∙ ap (above batch.to) (mutations_step f success ∙ append-nil (mutations (begun f) f.events))) in
       record {
-        items = λ told.
-            ap (above batch.to) (s.items (sym (same_told f success) ∙ told))
-            ∙ above_above (world_of f).persisted batch.to (mutations (begun f) f.events) (let h = b.above in omega arith)
-            ∙ sym (ap (λ n. above n (mutations (begun f) (with_event f success).events)) persisted_is ∙ ap (above batch.to) (mutations_step f success ∙ append-nil (mutations (begun f) f.events)));
+        numbers = above_alike batch.to q.items (above (world_of f).persisted (mutations (begun f) f.events)) s.numbers ∙ ap all_numbered left;
+        items = λ told. ap (above batch.to) (s.items (sym (same_told f success) ∙ told)) ∙ left;
         high = s.high ∙ sym (ap (λ (w : World). w.high) same);
         maxcas = s.maxcas ∙ sym (ap (λ (w : World). w.maxcas) same);
         persisted = sym persisted_is;

@@ -6,6 +6,7 @@ use Rattle.std.specs.FinMap.{get, get-empty}
 use Rattle.std.specs.Str.{bytes_eq}
 use Rattle.std.specs.Ordering.{nat_cmp}
 use Rattle.std.specs.Cmp.Lexicographic.{slice_cmp}
+use Rattle.std.proofs.lemmas.List.{map-append}
 use Rattle.std.proofs.lemmas.List.Elements.{filter-append}
 use Rattle.std.proofs.lemmas.Slice.Eq.{bytes_eq-Decides}
 use Rattle.std.proofs.lemmas.Bool.Decides.{nat_tests}
@@ -45,6 +46,7 @@ use Rattle.flat_parts.specs.declared.data.Step.{Step}
 use Rattle.flat_parts.specs.declared.data.Step.TheVariants as steps
 use Rattle.flat_parts.specs.Nodes.{node_of, node_at, put_node, released, forgotten}
 use Rattle.flat_parts.specs.Steps.{shown_value, shown_docs, shown_world, stripe_after, queue_after, write_step}
+use Rattle.ep_drill.specs.Numbers.{Numbers, numbered, all_numbered}
 use Rattle.ep_drill.specs.Stands.{ValueStands, NodeStands, IsGone, OutcomeStands, ticket_of, PlaceStands, StripeStands, QueueStands}
 use Rattle.hold_stage.proofs.ApartLemmas.{has_failed_later, waiting_later, mutations_step, same_table}
 use Rattle.ep_drill.proofs.AskLemmas.{with_places}
@@ -136,13 +138,15 @@ calm_all stripe caller now call reply value (place ∷ places) = (record { unuse
 
 -- an event that puts nothing and leaves the world leaves a queue
 pub queue_same : (f : FrontData) (event : EventData) (q : QueueData) → world_of (with_event f event) ≡ world_of f → mutation_of (world_of f) event ≡ None → QueueStands f q → QueueStands (with_event f event) q
-queue_same f event q world puts s = record {
-  items = λ told.
-      s.items (sym (same_told f event) ∙ told)
-      ∙ sym (
-      ap (λ (w : World). above w.persisted (mutations (begun f) (with_event f event).events)) world
-      ∙ ap (λ (l : List (List ℕ × Doc)). above (world_of f).persisted l) (mutations_step f event ∙ ap (λ (p : Option (List ℕ × Doc)). mutations (begun f) f.events ++ option_to_list p) puts ∙ append-nil (mutations (begun f) f.events))
-      );
+queue_same f event q world puts s =
+    let left : above (world_of f).persisted (mutations (begun f) f.events) ≡ above (world_of (with_event f event)).persisted (mutations (begun f) (with_event f event).events) =
+    sym (
+    ap (λ (w : World). above w.persisted (mutations (begun f) (with_event f event).events)) world
+    ∙ ap (λ (l : List (List ℕ × Doc)). above (world_of f).persisted l) (mutations_step f event ∙ ap (λ (p : Option (List ℕ × Doc)). mutations (begun f) f.events ++ option_to_list p) puts ∙ append-nil (mutations (begun f) f.events))
+    ) in
+    record {
+  numbers = s.numbers ∙ ap all_numbered left;
+  items = λ told. s.items (sym (same_told f event) ∙ told) ∙ left;
   high = s.high ∙ sym (ap (λ (w : World). w.high) world);
   maxcas = s.maxcas ∙ sym (ap (λ (w : World). w.maxcas) world);
   persisted = s.persisted ∙ sym (ap (λ (w : World). w.persisted) world);
@@ -238,15 +242,21 @@ module _ (f : FrontData) (stripe caller now : ℕ) (key : List ℕ) (call : Call
       let b = (legal_bounds f legal).stored in
       let over : nat_lt (world_of f).persisted doc.seqno ≡ true = (let h : (world_of f).persisted < doc.seqno = omega arith in grind (arith, nat_tests)) in
       let kept : (world_of (with_event f event)).persisted ≡ (world_of f).persisted = ap (λ (w : World). w.persisted) world in
+      let before = above (world_of f).persisted (mutations (begun f) f.events) in
+      let more : before ++ (key, doc) ∷ [] ≡ above (world_of (with_event f event)).persisted (mutations (begun f) (with_event f event).events) =
+      sym (
+      ap (λ n. above n (mutations (begun f) (with_event f event).events)) kept
+      ∙ ap (λ (l : List (List ℕ × Doc)). above (world_of f).persisted l) (mutations_step f event ∙ ap (λ (p : Option (List ℕ × Doc)). mutations (begun f) f.events ++ option_to_list p) puts)
+      ∙ filter-append (λ (p : List ℕ × Doc). nat_lt (world_of f).persisted p.1.seqno) (mutations (begun f) f.events) ((key, doc) ∷ [])
+      ∙ ap (λ t. above (world_of f).persisted (mutations (begun f) f.events) ++ cond t ((key, doc) ∷ []) []) over
+      ) in
       record {
-        items = λ told.
-            ap (λ (l : List (List ℕ × Doc)). l ++ (key, doc) ∷ []) (s.items (sym (same_told f event) ∙ told))
-            ∙ sym (
-            ap (λ n. above n (mutations (begun f) (with_event f event).events)) kept
-            ∙ ap (λ (l : List (List ℕ × Doc)). above (world_of f).persisted l) (mutations_step f event ∙ ap (λ (p : Option (List ℕ × Doc)). mutations (begun f) f.events ++ option_to_list p) puts)
-            ∙ filter-append (λ (p : List ℕ × Doc). nat_lt (world_of f).persisted p.1.seqno) (mutations (begun f) f.events) ((key, doc) ∷ [])
-            ∙ ap (λ t. above (world_of f).persisted (mutations (begun f) f.events) ++ cond t ((key, doc) ∷ []) []) over
-            );
+        numbers =
+            map-append numbered q.items ((key, doc) ∷ [])
+            ∙ ap (λ (l : List (List ℕ × Numbers)). l ++ numbered (key, doc) ∷ []) s.numbers
+            ∙ sym (map-append numbered before ((key, doc) ∷ []))
+            ∙ ap all_numbered more;
+        items = λ told. ap (λ (l : List (List ℕ × Doc)). l ++ (key, doc) ∷ []) (s.items (sym (same_told f event) ∙ told)) ∙ more;
         high = sym (ap (λ (w : World). w.high) world);
         maxcas = sym (ap (λ (w : World). w.maxcas) world);
         persisted = s.persisted ∙ sym kept;

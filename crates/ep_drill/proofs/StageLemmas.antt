@@ -2,7 +2,8 @@
 use Rattle.hold_stage.proofs.RisesLemmas.{opened_unstored}
 use Rattle.std.proofs.Common.{◌≡◌, ℕ, ◌+◌, false, List, [], ◌∷◌, ◌++◌, take, add-one, refl, sym, ap, subst, ◌∙◌, arith}
 use Rattle.std.specs.Prelude.{Option, Some, slice_get}
-use Rattle.std.specs.FinMap.{insert}
+use Rattle.std.specs.Option.{option_map}
+use Rattle.std.specs.FinMap.{get, insert}
 use Rattle.std.proofs.Math.Seq.{take-suc}
 use Rattle.std.proofs.lemmas.Option.{slice_get_within, get_or_from_slice_get}
 use Rattle.ep_model.specs.declared.data.EventData.TheVariants as events
@@ -23,6 +24,8 @@ use Rattle.kv_keeper.specs.Desk.{IsSure}
 use Rattle.kv_keeper.specs.Kept.{IsDoubtful, all_committed}
 use Rattle.flat_parts.specs.declared.data.QueueData.{QueueData}
 use Rattle.ep_drill.specs.declared.store.Flushed.TheVariants as flushes
+use Rattle.ep_drill.specs.Numbers.{numbers_of}
+use Rattle.ep_drill.proofs.NumbersLemmas.{laid_alike}
 use Rattle.ep_drill.specs.Stands.{QueueStands, DeskStands, BatchStands}
 use Rattle.ep_drill.specs.StoreSide.{IsTaken, IsFlushed, whole}
 use Rattle.ep_drill.proofs.StoreLemmas.{batch_taken, has_start}
@@ -68,6 +71,10 @@ taken_stands f₀ f desk high persisted top most q empty filled front d legal s 
       whole ∙ s.high ∙ ap (λ (g : FrontData). (world_of g).high) front,
       distinct,
       λ told docs. lays docs ∙ ap (λ (l : List (List ℕ × Doc)). laid_on docs l) (s.items (ap (λ (g : FrontData). (world_of g).told) front ∙ told) ∙ ap (λ (g : FrontData). above (world_of g).persisted (mutations (begun g) g.events)) front),
+      λ docs key.
+          ap (λ (d : Docs). option_map numbers_of (get d key)) (lays docs)
+          ∙ laid_alike q.items (above (world_of f).persisted (mutations (begun f) f.events)) docs docs s.numbers (λ k. refl) key
+          ∙ ap (λ (g : FrontData). option_map numbers_of (get (laid_on docs (above (world_of g).persisted (mutations (begun g) g.events))) key)) front,
     )
 
 -- not all is stored where a queue's last number isn't

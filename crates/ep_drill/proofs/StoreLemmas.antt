@@ -2,6 +2,7 @@
 use Rattle.std.proofs.Common.{◌≡◌, ◌+◌, ◌<◌, ◌≤◌, ℕ, true, false, inl, inr, List, [], ◌∷◌, ◌++◌, refl, sym, ap, subst, ◌∙◌, arith}
 use Rattle.std.specs.Prelude.{Option, Some, None, IsSome, ◌==◌, ◌||◌, ◌&&◌, not}
 use Rattle.std.specs.List.{AllByRecursion}
+use Rattle.std.specs.Option.{option_map}
 use Rattle.std.specs.FinMap.{get}
 use Rattle.std.proofs.lemmas.Bool.Decides.{Decides-eqb}
 use Rattle.ep_model.specs.Calls.{key_of}
@@ -38,6 +39,8 @@ use Rattle.hold_stage.proofs.RisesLemmas.{high_rises}
 use Rattle.ep_drill.specs.declared.data.FetchedData.{FetchedData}
 use Rattle.ep_drill.specs.declared.data.FoundData.{FoundData}
 use Rattle.ep_drill.specs.declared.data.FoundData.TheVariants as founds
+use Rattle.ep_drill.specs.Numbers.{numbers_of}
+use Rattle.ep_drill.proofs.NumbersLemmas.{laid_alike}
 use Rattle.ep_drill.specs.Stands.{QueueStands, HoldsAt, HoldsIfTelling, ContentStands, DeskStands, BatchStands, FoundStands, FetchedStands}
 use Rattle.hold_stage.proofs.WaitLemmas.{and_left, and_right, not_true, docs_apart, waiting_asked, waiting_low}
 use Rattle.hold_stage.proofs.HistoryLemmas.{batch_law}
@@ -216,6 +219,7 @@ batch_keeps f event stored batch start same b =
       above = let more = b.above in omega arith;
       low = low;
       top = let h = high_rises f event in omega arith;
+      numbers = λ key. ap (λ (w : World). option_map numbers_of (get (laid batch.rows w.docs) key)) at ∙ b.numbers key ∙ ap (λ (w : World). option_map numbers_of (get w.docs key)) (sym to);
       docs = λ told. ap (λ (w : World). laid batch.rows w.docs) at ∙ b.docs (sym (same_told f event) ∙ told) ∙ ap (λ (w : World). w.docs) (sym to);
       maxcas = b.maxcas ∙ ap (λ (w : World). w.maxcas) (sym to);
     }
@@ -302,15 +306,20 @@ batch_taken f q batch stored legal s low top more to maxcas laid-is =
     let start = b.start in let within = b.stored in
     let last = upto_last (begun f) f.events in
     let at : batch.to ≡ (world_of f).high = to ∙ s.high in
+    let known = (upto (begun f) f.events stored).docs in
+    let puts = above (world_of f).persisted (mutations (begun f) f.events) in
+    let all : laid_on known puts ≡ (upto (begun f) f.events batch.to).docs =
+    batch_law f (world_of f).persisted stored puts (record { low = start; top = within }) low top (λ key. refl)
+    ∙ last.docs ∙ ap (λ n. (upto (begun f) f.events n).docs) (sym at) in
     record {
       above = let e = to in omega arith;
       low = let e = to in omega arith;
       top = omega arith;
-      docs = λ told.
-          laid-is (upto (begun f) f.events stored).docs
-          ∙ ap (λ (l : List (List ℕ × Doc)). laid_on (upto (begun f) f.events stored).docs l) (s.items told)
-          ∙ batch_law f (world_of f).persisted stored (above (world_of f).persisted (mutations (begun f) f.events)) (record { low = start; top = within }) low top (λ key. refl)
-          ∙ last.docs ∙ ap (λ n. (upto (begun f) f.events n).docs) (sym at);
+      numbers = λ key.
+          ap (λ (d : Docs). option_map numbers_of (get d key)) (laid-is known)
+          ∙ laid_alike q.items puts known known s.numbers (λ k. refl) key
+          ∙ ap (λ (d : Docs). option_map numbers_of (get d key)) all;
+      docs = λ told. laid-is known ∙ ap (λ (l : List (List ℕ × Doc)). laid_on known l) (s.items told) ∙ all;
       maxcas = maxcas ∙ s.maxcas ∙ last.maxcas ∙ ap (λ n. (upto (begun f) f.events n).maxcas) (sym at);
     }
 

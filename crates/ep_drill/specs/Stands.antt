@@ -29,6 +29,7 @@ use Rattle.kv_keeper.specs.Batch.{laid}
 use Rattle.kv_keeper.specs.declared.data.DeskData.{DeskData}
 use Rattle.kv_keeper.specs.Content.{Content, KeeperData}
 use Rattle.flat_parts.specs.Nodes.{node_at}
+use Rattle.ep_drill.specs.Numbers.{all_numbered, HaveSameNumbers}
 
 -- A resident value is the document's. A value may be away only where the stripe knows that it is stored, and where the
 -- document isn't deleted.
@@ -81,8 +82,10 @@ pub record StripeStands (f : FrontData) (stripe : ℕ) (x : StripeData) : Type 0
   pub closed : (world_of f).opened ≡ false → x.places ≡ []
   pub is_told : (world_of f).told ≡ true
 
--- a queue stands for a history: it holds all mutations above the persisted number, so that nothing that isn't stored is lost
+-- A queue stands for a history: it holds all mutations above the persisted number, each once and in order, so that nothing that
+-- isn't stored is lost. `numbers` says so of their keys, numbers and CAS, and `items` of all of them where documents are known.
 pub record QueueStands (f : FrontData) (q : QueueData) : Type 0 where
+  pub numbers : all_numbered q.items ≡ all_numbered (above (world_of f).persisted (mutations (begun f) f.events))
   pub items : (world_of f).told ≡ true → q.items ≡ above (world_of f).persisted (mutations (begun f) f.events)
   pub high : q.high ≡ (world_of f).high
   pub maxcas : q.maxcas ≡ (world_of f).maxcas
@@ -128,12 +131,14 @@ pub record DeskStands (f : FrontData) (desk : DeskData) : Type 0 where
   pub tells : IsSome f.start → (world_of f).told ≡ true → IsSome desk.keeper.content
   pub both : IsSome f.start → (world_of f).told ≡ true → IfSome desk.doubt (λ _. IsSome desk.keeper.second)
 
--- A batch stands between its taking and its commit: laid over what the store holds it gives what the history had put at the
--- batch's number, as far as documents are known.
+-- A batch stands between its taking and its commit: laid over what the history had put up to the store's number it gives what
+-- the history had put at the batch's. `numbers` says so of each key's number and CAS, and `docs` of all of the documents where
+-- they are known.
 pub record BatchStands (f : FrontData) (stored : ℕ) (batch : BatchData) : Type 0 where
   pub above : (world_of f).persisted < batch.to
   pub low : stored ≤ batch.to
   pub top : batch.to ≤ (world_of f).high
+  pub numbers : HaveSameNumbers (laid batch.rows (upto (begun f) f.events stored).docs) (upto (begun f) f.events batch.to).docs
   pub docs : (world_of f).told ≡ true → laid batch.rows (upto (begun f) f.events stored).docs ≡ (upto (begun f) f.events batch.to).docs
   pub maxcas : batch.maxcas ≡ (upto (begun f) f.events batch.to).maxcas
 

@@ -17,6 +17,7 @@ use Rattle.ep_drill.specs.declared.store.Paged.{Paged}
 use Rattle.ep_drill.specs.declared.store.Flushed.{Flushed}
 use Rattle.ep_drill.specs.declared.store.Flushed.TheVariants as flushes
 use Rattle.flat_parts.specs.Steps.{page_step}
+use Rattle.ep_drill.specs.Numbers.{HaveSameNumbers}
 use Rattle.ep_drill.specs.Stands.{DeskStands, BatchStands}
 
 -- the pager's answer, where the stripe is told
@@ -27,13 +28,14 @@ IsPaged (Some (parts.Stripe x)) new paged =
 IsPaged (Some (parts.Queue q)) new paged = ⊥
 IsPaged (Some (parts.Desk d)) new paged = ⊥
 
--- A batch that stands and lays over documents the mutations that aren't stored, as far as these are known, up to the last; or all
--- is stored.
+-- A batch that stands and lays over documents the mutations that aren't stored, up to the last: their keys, numbers and CAS, and
+-- all of them where documents are known. Or all is stored.
 abbrev pub IsTaken : FrontData → ℕ → Option BatchData → Type 0
 IsTaken f stored None = (world_of f).high ≡ (world_of f).persisted
 IsTaken f stored (Some batch) =
     BatchStands f stored batch × (batch.to ≡ (world_of f).high) × AreDistinct batch.rows
     × ((world_of f).told ≡ true → (docs : Docs) → laid batch.rows docs ≡ laid_on docs (above (world_of f).persisted (mutations (begun f) f.events)))
+    × ((docs : Docs) → HaveSameNumbers (laid batch.rows docs) (laid_on docs (above (world_of f).persisted (mutations (begun f) f.events))))
 
 -- the numbers under which a batch is stored
 abbrev pub state_for : BatchData → StoreState

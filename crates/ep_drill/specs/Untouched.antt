@@ -21,6 +21,7 @@ use Rattle.flat_parts.specs.declared.data.Outcome.TheVariants as outcomes
 use Rattle.flat_parts.specs.declared.data.PlaceData.{PlaceData}
 use Rattle.flat_parts.specs.declared.data.StripeData.{StripeData}
 use Rattle.flat_parts.specs.declared.data.QueueData.{QueueData}
+use Rattle.ep_drill.specs.Numbers.{all_numbered}
 use Rattle.ep_drill.specs.Stands.{ValueStands, IsGone, OutcomeStands, ticket_of, PlaceStands, StripeStands, QueueStands}
 
 outcome_keeps : (f : FrontData) (stripe number : ℕ) (key : List ℕ) (outcome : Outcome) (event : EventData) → touches f event (Stripe stripe) ≡ false → get (world_of (with_event f event)).docs key ≡ get (world_of f).docs key
@@ -74,8 +75,11 @@ queue_keeps f event q apart s =
     let same = world_queue f event apart in
     let puts : mutations (begun f) (with_event f event).events ≡ mutations (begun f) f.events =
     mutations_step f event ∙ ap (λ (p : Option (List ℕ × Doc)). mutations (begun f) f.events ++ option_to_list p) (no_mutation f (world_of f) event apart) ∙ append-nil (mutations (begun f) f.events) in
+    let left : above (world_of f).persisted (mutations (begun f) f.events) ≡ above (world_of (with_event f event)).persisted (mutations (begun f) (with_event f event).events) =
+    ap (λ n. above n (mutations (begun f) f.events)) (sym same.persisted) ∙ ap (λ (l : List (List ℕ × Doc)). above (world_of (with_event f event)).persisted l) (sym puts) in
     record {
-      items = λ told. s.items (sym (same_told f event) ∙ told) ∙ ap (λ n. above n (mutations (begun f) f.events)) (sym same.persisted) ∙ ap (λ (l : List (List ℕ × Doc)). above (world_of (with_event f event)).persisted l) (sym puts);
+      numbers = s.numbers ∙ ap all_numbered left;
+      items = λ told. s.items (sym (same_told f event) ∙ told) ∙ left;
       high = s.high ∙ sym same.high;
       maxcas = s.maxcas ∙ sym same.maxcas;
       persisted = s.persisted ∙ sym same.persisted;
