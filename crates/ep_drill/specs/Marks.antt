@@ -29,6 +29,12 @@ HasMarked f stripe number before after markings.Idle = (marked f stripe ≡ numb
 HasMarked f stripe number before after (markings.Raised other) = (other ≡ number) × (marked f stripe ≡ number) × (after ≡ before)
 HasMarked f stripe number before after (markings.Busy busy) = (busy.part ≡ Stripe stripe) × Rose before after
 
+-- something is so where somebody else has the stripe
+abbrev pub IfElsewhere : Marking → Type 0 → Type 0
+IfElsewhere markings.Idle t = Unit {0}
+IfElsewhere (markings.Raised other) t = Unit {0}
+IfElsewhere (markings.Busy busy) t = t
+
 -- the stripe's mark becomes this, but where the stripe isn't at home
 abbrev pub MarksPart : Option Part → Option Part → ℕ → Marking → Type 0
 MarksPart old new number markings.Idle = Becomes old new (λ x. record x { mark = number })

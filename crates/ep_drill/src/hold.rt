@@ -1,5 +1,5 @@
 // Parts that are at home are taken by their kinds.
-ghost use Rattle.std.specs.Prelude.{◌≡◌, ℕ, true, false, if◌then◌else◌, Some, None, IsSome, MatchResult};
+ghost use Rattle.std.specs.Prelude.{◌≡◌, ℕ, true, false, if◌then◌else◌, Some, None, IsSome, IfErr, MatchResult};
 ghost use Rattle.ep_model.specs.declared.event.PartName.{PartName};
 ghost use Rattle.ep_model.specs.declared.event.PartName.TheVariants.{Stripe, Queue, Desk};
 ghost use Rattle.ep_model.specs.Front.{world_of};
@@ -56,6 +56,7 @@ pub(crate) fn try_take_stripe<S: Stage<Part = Part>>(
     ensures taken { MatchResult result (λ x. StripeStands (S.front stage.new) stripe x
         × (S.losses stage.new ≡ S.losses stage.old))
         (λ b. (b.part ≡ Stripe stripe) × Rose (S.losses stage.old) (S.losses stage.new)) }
+    ensures elsewhere { IfErr result (λ _. S.elsewhere stage.old (Stripe stripe)) }
     ensures held { MatchResult result (λ _. Same (S.holds stage.new)
         (and_this (Stripe stripe) (S.holds stage.old)))
         (λ _. Same (S.holds stage.new) (S.holds stage.old)) }

@@ -9,7 +9,7 @@ ghost use Rattle.hold_stage.specs.Touches.{there, is_stripe};
 ghost use Rattle.hold_stage.specs.Stays.{Stays, KeptBut};
 ghost use Rattle.hold_stage.specs.Grows.{Same};
 ghost use Rattle.hold_stage.specs.Went.{with_noted, Went, LeavesRoom};
-ghost use Rattle.ep_drill.specs.Marks.{marked_by, HasMarked, MarksPart};
+ghost use Rattle.ep_drill.specs.Marks.{marked_by, HasMarked, IfElsewhere, MarksPart};
 
 use crate::hold::try_take_stripe;
 use crate::part::Part;
@@ -46,6 +46,7 @@ pub(crate) fn mark_once<S: Stage<Part = Part>, K: Keeper>(
         (marked_by stripe desk.now.noted result) }
     ensures marked { HasMarked (S.front stage.new) stripe desk.now.noted (S.losses stage.old)
         (S.losses stage.new) result }
+    ensures elsewhere { IfElsewhere result (S.elsewhere stage.old (Stripe stripe)) }
     ensures held { Same (S.holds stage.new) (S.holds stage.old) }
     ensures alone { S.is_telling stage.old ≡ true → S.front stage.new
         ≡ with_noted (S.front stage.old) (marked_by stripe desk.now.noted result) }
