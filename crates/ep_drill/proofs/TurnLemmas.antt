@@ -26,8 +26,8 @@ use Rattle.ep_drill.specs.Parts.{part_stands}
 use Rattle.hold_stage.specs.Went.{with_noted}
 use Rattle.ep_drill.specs.Calls.{event_of}
 use Rattle.ep_drill.specs.Callers.{CallerStands, caller_data, loaded_data, next_of, after_step, tried_of}
-use Rattle.ep_drill.specs.Core.{IsOn, Ready, Moved, Rested, Turned, Interleaves, Continues, GoesOn, calls_of, core_data}
-use Rattle.ep_drill.specs.Stepped.{WasTried, IsFronted, IsIdle, Spares, answer_of}
+use Rattle.ep_drill.specs.Core.{IsOn, NextMayWant, Ready, Moved, Rested, Turned, Interleaves, Continues, GoesOn, calls_of, core_data}
+use Rattle.ep_drill.specs.Stepped.{WasTried, IsFronted, IsIdle, Spares, TurnTakes, answer_of}
 use Rattle.ep_drill.specs.Stepped.IsIdle.{NoCaller, NoCall, NoMoment}
 use Rattle.ep_drill.proofs.CoreLemmas.{core_tried, core_rested, calls_same}
 
@@ -202,21 +202,26 @@ not_idle old number now caller at some early (NoCall other found none) =
     absurd (cc)
 not_idle old number now caller at some early (NoMoment late) = not_before end_of_moments now late early
 
--- Where memory was wanting for a caller's turn nothing has changed, and there was a call to do.
+-- Where memory was wanting for a caller's turn nothing has changed, and there was a call to do, which may want it.
 pub front_spared : {K : Type 0} {E : Type 0} (old : CoreData) (config : Config) (w z : WorldData Part) (benches : List (Bench K)) (callers : List Caller) (place told now : ℕ) (caller after : Caller) (result : Result (Option Step) E)
     → core_data config w benches callers ≡ old → place ≡ told → slice_get callers place ≡ Some caller → IsMoment now
-    → OnErr result (Rested config w z × (caller_data after ≡ caller_data caller) × IsSome (next_of (caller_data caller)))
-    → OnErr (answer_of result) (Spares old (core_data config z benches (slice_set callers place after)) × (IsIdle old told now → ⊥))
-front_spared old config w z benches callers place told now caller after (Ok None) is here at early err = tt
-front_spared old config w z benches callers place told now caller after (Ok (Some step)) is here at early err = tt
-front_spared old config w z benches callers place told now caller after (Err e) is here at early err =
+    → OnErr result (Rested config w z × (caller_data after ≡ caller_data caller) × IsSome (next_of (caller_data caller))) → OnErr result (NextMayWant config w (caller_data caller) now)
+    → OnErr (answer_of result) (Spares old (core_data config z benches (slice_set callers place after)) × TurnTakes old told now)
+front_spared old config w z benches callers place told now caller after (Ok None) is here at early err wants = tt
+front_spared old config w z benches callers place told now caller after (Ok (Some step)) is here at early err wants = tt
+front_spared old config w z benches callers place told now caller after (Err e) is here at early err wants =
+    let found : slice_get old.callers told ≡ Some (caller_data caller) = caller_told old config w benches callers place told caller is here at in
     let first : CoreData = core_data config w benches callers in
     let last : CoreData = core_data config z benches (slice_set callers place after) in
     let spared : Spares first last = record {
       left = ap (λ (l : List CallerData). record first { world = z; callers = l }) (callers_kept callers place caller after at err.1);
       rested = err.0;
     } in
-    (subst (λ (o : CoreData). Spares o last) is spared, not_idle old told now (caller_data caller) (caller_told old config w benches callers place told caller is here at) err.2 early)
+    let takes : TurnTakes old told now = (
+      not_idle old told now (caller_data caller) found err.2 early,
+      (caller_data caller, found, subst (λ (o : CoreData). NextMayWant o.config o.world (caller_data caller) now) is wants),
+    ) in
+    (subst (λ (o : CoreData). Spares o last) is spared, takes)
 
 -- a caller whose list has a call at the place of its next one has a next call
 pub is_next : (caller : Caller) (loaded : Loaded) → slice_get caller.calls.items caller.answered ≡ Some loaded → IsSome (next_of (caller_data caller))

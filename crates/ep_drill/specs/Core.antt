@@ -1,5 +1,5 @@
 -- What is true of a core between two steps, and how a step moves it.
-use Rattle.std.specs.Prelude.{◌≡◌, ◌≢◌, ℕ, ◌-◌, ◌^◌, min, ◌<◌, ◌≤◌, true, false, List, map, ◌++◌, length, slice_get, Option, Some, None, IsSome, IfSome}
+use Rattle.std.specs.Prelude.{◌≡◌, ◌≢◌, ◌⊎◌, ℕ, ◌-◌, ◌^◌, min, ◌<◌, ◌≤◌, true, false, List, map, ◌++◌, length, slice_get, Option, Some, None, IsSome, IfSome}
 use Rattle.std.specs.Option.{option_map}
 use Rattle.std.specs.List.{AllByRecursion}
 use Rattle.ep_model.specs.declared.config.Config.{Config}
@@ -7,7 +7,9 @@ use Rattle.ep_model.specs.declared.config.Eviction.TheVariants.{Value}
 use Rattle.ep_model.specs.declared.data.CallData.{CallData}
 use Rattle.ep_model.specs.declared.data.EventData.{EventData}
 use Rattle.ep_model.specs.declared.data.FrontData.{FrontData}
+use Rattle.ep_model.specs.declared.event.Ticket.{Ticket}
 use Rattle.ep_model.specs.Config.{config_fault}
+use Rattle.ep_model.specs.Limits.{event_bytes}
 use Rattle.ep_model.specs.Front.{world_of}
 use Rattle.hold_stage.specs.Touches.{is_call, touches_call}
 use Rattle.kv_keeper.specs.declared.data.BatchData.{BatchData}
@@ -30,7 +32,7 @@ use Rattle.hold_stage.specs.Stays.{KeptBut}
 use Rattle.ep_drill.specs.Callers.{CallerStands, caller_data, next_of, after_step}
 use Rattle.ep_drill.specs.Fetches.{fetched_data}
 use Rattle.ep_drill.specs.Stands.{DeskStands, BatchStands, FetchedStands}
-use Rattle.ep_drill.specs.Tries.{ComesTo}
+use Rattle.ep_drill.specs.Tries.{ComesTo, NeedsMemory}
 
 abbrev pub bench_data : {K : Type 0} → Bench K → BenchData
 bench_data bench = record { desk = bench.desk; batch = bench.batch; reads = map (option_map fetched_data) bench.reads.items }
@@ -75,6 +77,18 @@ pub record Worked (config : Config) (vb : ℕ) (old new : WorldData Part) : Type
 -- the history has no room for one event more
 abbrev pub LacksRoom : WorldData Part → Type 0
 LacksRoom world = world.event_room ≡ 0
+
+-- or not for one of a call, with as many bytes as it may take
+abbrev pub LacksCallRoom : WorldData Part → Type 0
+LacksCallRoom world = (world.event_room < 1) ⊎ (world.byte_room < event_bytes)
+
+-- Memory may be wanting for a call: where the history has no room for its event, or where the call takes memory itself.
+abbrev pub MayWant : Config → WorldData Part → ℕ × CallData → ℕ → Option Ticket → Type 0
+MayWant config world call now prior = LacksCallRoom world ⊎ NeedsMemory config (part_in world call.0) call.1 now prior
+
+-- a caller has a next call, and memory may be wanting for it
+abbrev pub NextMayWant : Config → WorldData Part → CallerData → ℕ → Type 0
+NextMayWant config world caller now = (call : ℕ × CallData) × (next_of caller ≡ Some call) × MayWant config world call now caller.prior
 
 -- nothing happened, but that there may be room for more
 pub record Rested (config : Config) (old new : WorldData Part) : Type 0 where

@@ -23,7 +23,7 @@ use Rattle.hold_stage.specs.Stays.{KeptBut}
 use Rattle.ep_drill.specs.Callers.{next_of, after_step, tried_of}
 use Rattle.ep_drill.specs.Fetches.{HasWaiting}
 use Rattle.ep_drill.specs.Tries.{ComesTo}
-use Rattle.ep_drill.specs.Core.{Moved, Rested, Interleaves, GoesOn, LacksRoom}
+use Rattle.ep_drill.specs.Core.{Moved, Rested, Interleaves, GoesOn, LacksRoom, NextMayWant}
 use Rattle.ep_drill.specs.Works.{TakesAt, CommitsAt, MarksAt, FetchesAt, MergesAt}
 
 -- A caller's next call was tried, with this answer, and its event is noted where it has one. Nothing else changed.
@@ -121,11 +121,17 @@ pub record Spares (old new : CoreData) : Type 0 where
 abbrev pub BenchIs : CoreData → ℕ → (BenchData → Type 0) → Type 0
 BenchIs core vb P = (bench : BenchData) × (slice_get core.benches vb ≡ Some bench) × P bench
 
+-- a caller's turn for whose call memory may be wanting
+abbrev pub TurnTakes : CoreData → ℕ → ℕ → Type 0
+TurnTakes core number now =
+    (IsIdle core number now → ⊥)
+    × ((caller : CallerData) × (slice_get core.callers number ≡ Some caller) × NextMayWant core.config core.world caller now)
+
 -- A step for which memory may be wanting: there is something to do for it, and no room is at hand for the event of a commit, a mark
--- or a merge.
+-- or a merge. A call wants it for its event, for a place, or for a document.
 abbrev pub TakesMemory : CoreData → StepChoice → Type 0
 TakesMemory core (choices.Warm vb) = ⊥
-TakesMemory core (choices.Front caller now) = IsIdle core caller now → ⊥
+TakesMemory core (choices.Front caller now) = TurnTakes core caller now
 TakesMemory core (choices.TakeBatch vb) = ⊥
 TakesMemory core (choices.Commit vb) = BenchIs core vb (λ bench. IsSome bench.batch) × LacksRoom core.world
 TakesMemory core (choices.Mark vb stripe) = (vb < core.config.vbuckets) × (stripe < core.config.stripes) × LacksRoom core.world

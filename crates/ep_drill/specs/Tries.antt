@@ -1,5 +1,5 @@
 -- What a call comes to, by the parts that it needs, and what it leaves of them.
-use Rattle.std.specs.Prelude.{◌≡◌, ℕ, List, Option, Some}
+use Rattle.std.specs.Prelude.{◌≡◌, ℕ, ◌+◌, List, Option, Some}
 use Rattle.ep_model.specs.declared.call.StoreKind.TheVariants.{Set as SetKind, Add as AddKind, Replace as ReplaceKind}
 use Rattle.ep_model.specs.declared.config.Config.{Config}
 use Rattle.ep_model.specs.declared.data.CallData.{CallData}
@@ -11,6 +11,7 @@ use Rattle.ep_model.specs.Config.{fit_of}
 use Rattle.ep_model.specs.Stripes.{stripe_of}
 use Rattle.flat_parts.specs.declared.data.QueueData.{QueueData}
 use Rattle.flat_parts.specs.declared.data.Step.{Step}
+use Rattle.flat_parts.specs.declared.data.Step.TheVariants as steps
 use Rattle.flat_parts.specs.declared.data.StripeData.{StripeData}
 use Rattle.ep_drill.specs.declared.part.Part.{Part}
 use Rattle.ep_drill.specs.declared.part.Part.TheVariants as parts
@@ -47,3 +48,23 @@ ComesTo config old new (calls.Observe uuid) now prior step = ⊥
 ComesTo config old new calls.Failovers now prior step = ⊥
 ComesTo config old new (calls.SetState state) now prior step = ⊥
 ComesTo config old new calls.GetState now prior step = ⊥
+
+-- A Get asks for a read of its own, at a place that its stripe adds for it.
+pub record AddsPlace (stripes : ℕ) (old : PartName → Option Part) (prior : Option Ticket) (key : List ℕ) (now : ℕ) : Type 0 where
+  pub stripe : StripeData
+  pub before : old (Stripe (stripe_of key stripes)) ≡ Some (parts.Stripe stripe)
+  pub asks : (read_step stripe prior key now).step ≡ steps.Fetch (record { stripe = stripe.index; number = stripe.next })
+
+-- A Set puts its document.
+pub record PutsDocument (stripes fit : ℕ) (old : PartName → Option Part) (prior : Option Ticket) (key value : List ℕ) (flags expiration cas now : ℕ) : Type 0 where
+  pub stripe : StripeData
+  pub queue : QueueData
+  pub before : old (Stripe (stripe_of key stripes)) ≡ Some (parts.Stripe stripe)
+  pub queued : old Queue ≡ Some (parts.Queue queue)
+  pub puts : (write_step stripe queue fit prior key value flags expiration cas now).queue.high ≡ queue.high + 1
+
+-- what a call takes memory for
+abbrev pub NeedsMemory : Config → (PartName → Option Part) → CallData → ℕ → Option Ticket → Type 0
+NeedsMemory config old (calls.Get key) now prior = AddsPlace config.stripes old prior key now
+NeedsMemory config old (calls.Store SetKind key value flags expiration cas) now prior = PutsDocument config.stripes (fit_of config) old prior key value flags expiration cas now
+NeedsMemory config old call now prior = ⊥

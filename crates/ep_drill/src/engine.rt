@@ -7,7 +7,7 @@ ghost use Rattle.ep_drill.specs.Callers.{caller_data};
 ghost use Rattle.ep_drill.specs.Fetches.{HasWaiting};
 ghost use Rattle.ep_drill.specs.Core.{core_data, Interleaves, GoesOn, LacksRoom};
 ghost use Rattle.ep_drill.specs.Works.{TakesAt, CommitsAt, MarksAt, FetchesAt, MergesAt};
-ghost use Rattle.ep_drill.specs.Stepped.{BenchIs, IsBenched, IsFronted, IsIdle, IsNoBucket, IsNowhere, IsPagedAt, Ran, RanSome, Spares, Stepped, TakesMemory};
+ghost use Rattle.ep_drill.specs.Stepped.{BenchIs, IsBenched, IsFronted, IsNoBucket, IsNowhere, IsPagedAt, Ran, RanSome, Spares, Stepped, TakesMemory, TurnTakes};
 
 use crate::bench::Bench;
 use crate::choice::{Answer, StepChoice};
@@ -57,7 +57,7 @@ impl<K: Keeper> Core<K> {
         ensures interleaves { Interleaves self.new }
         ensures goes_on { GoesOn self.old self.new }
         ensures fronted { IfOk result (IsFronted self.old self.new number now) }
-        ensures err { OnErr result (Spares self.old self.new × (IsIdle self.old number now → ⊥)) }
+        ensures err { OnErr result (Spares self.old self.new × TurnTakes self.old number now) }
     {
         let Some(caller) = self.callers.get_mut(usize::from(number)) else {
             return Ok(Answer::Nothing);

@@ -15,7 +15,7 @@ ghost use Rattle.hold_stage.specs.Grows.{Same, IsNone, Covered, IsOwn};
 ghost use Rattle.hold_stage.specs.Went.{with_noted, HasRoom};
 ghost use Rattle.ep_drill.specs.Calls.{event_of, AreHome};
 ghost use Rattle.hold_stage.specs.Priors.{is_prior, PriorsStand};
-ghost use Rattle.ep_drill.specs.Tries.{ComesToGet, ComesToSet};
+ghost use Rattle.ep_drill.specs.Tries.{AddsPlace, ComesToGet, ComesToSet, PutsDocument};
 
 use crate::hold::{take_queue, take_stripe};
 use crate::part::Part;
@@ -78,7 +78,7 @@ fn note_step<S: Stage<Part = Part>>(
     }
 }
 
-/// Tries a Get. It takes memory only to ask, and where that is wanting the parts and the history are as they were.
+/// Tries a Get. It takes memory only for a place that it asks at, and where that is wanting the parts and the history are as they were.
 pub(crate) fn try_get<S: Stage<Part = Part>>(
     alloc: Global,
     stage: &mut S,
@@ -109,6 +109,7 @@ pub(crate) fn try_get<S: Stage<Part = Part>>(
     ensures err { OnErr result (S.front stage.new ≡ S.front stage.old) }
     ensures parts { OnErr result ((p : PartName) → there (S.front stage.old).config p ≡ true
         → S.tells stage.new p ≡ S.tells stage.old p) }
+    ensures memory { OnErr result (AddsPlace stripes (S.tells stage.old) prior key.now now) }
     ensures free { Same (S.holds stage.new) (S.holds stage.old) }
     ensures home { AreHome (S.front stage.old).config (S.tells stage.new) }
     ensures value { value.new.spare + length value.new.bytes ≡ max_value }
@@ -128,7 +129,7 @@ pub(crate) fn try_get<S: Stage<Part = Part>>(
     }
 }
 
-/// Tries a Set. Where memory is wanting the parts and the history are as they were.
+/// Tries a Set. It takes memory only for its document, and where that is wanting the parts and the history are as they were.
 pub(crate) fn try_set<S: Stage<Part = Part>>(
     alloc: Global,
     stage: &mut S,
@@ -161,6 +162,8 @@ pub(crate) fn try_set<S: Stage<Part = Part>>(
     ensures err { OnErr result (S.front stage.new ≡ S.front stage.old) }
     ensures parts { OnErr result ((p : PartName) → there (S.front stage.old).config p ≡ true
         → S.tells stage.new p ≡ S.tells stage.old p) }
+    ensures memory { OnErr result (PutsDocument config.now.stripes (fit_of config.now)
+        (S.tells stage.old) prior key.now value.now flags expiration cas now) }
     ensures free { Same (S.holds stage.new) (S.holds stage.old) }
     ensures home { AreHome (S.front stage.old).config (S.tells stage.new) }
 {

@@ -5,7 +5,7 @@ ghost use Rattle.ep_model.specs.Limits.{IsMoment, max_value};
 ghost use Rattle.vb_world.specs.World.{front_in, Sound};
 ghost use Rattle.ep_drill.specs.Parts.{part_stands};
 ghost use Rattle.ep_drill.specs.Callers.{CallerStands, caller_data, next_of, after_step, tried_of};
-ghost use Rattle.ep_drill.specs.Core.{IsOn, Ready, Rested, Turned};
+ghost use Rattle.ep_drill.specs.Core.{IsOn, NextMayWant, Ready, Rested, Turned};
 ghost use Rattle.ep_drill.specs.Stepped.{answer_of};
 
 use crate::choice::{Answer, Tried};
@@ -76,6 +76,7 @@ pub(crate) fn try_next(
     ensures err { OnErr result (Rested config.now world.old world.new
         × (caller_data caller.new ≡ caller_data caller.old)
         × IsSome (next_of (caller_data caller.old))) }
+    ensures memory { OnErr result (NextMayWant config.now world.old (caller_data caller.old) now) }
     ensures sound { Sound part_stands world.new }
     ensures value { value.new.spare + length value.new.bytes ≡ max_value }
 {

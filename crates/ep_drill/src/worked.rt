@@ -1,5 +1,5 @@
 // Steps at one vBucket of a world, each with room for the event that it notes.
-ghost use Rattle.std.specs.Prelude.{◌≡◌, ◌+◌, ◌^◌, ◌<◌, ◌≤◌, ℕ, [], length, Some, None, IfSome, IfOk, OnErr};
+ghost use Rattle.std.specs.Prelude.{◌≡◌, ◌⊎◌, ◌+◌, ◌^◌, ◌<◌, ◌≤◌, ℕ, [], length, Some, None, IfSome, IfOk, OnErr};
 ghost use Rattle.ep_model.specs.declared.call.StoreKind.TheVariants.{Set as SetKind};
 ghost use Rattle.ep_model.specs.declared.data.CallData.TheVariants.{Get as GetData, Store as StoreData};
 ghost use Rattle.ep_model.specs.declared.event.PartName.TheVariants.{Stripe};
@@ -13,9 +13,9 @@ ghost use Rattle.hold_stage.specs.Priors.{PriorsStand};
 ghost use Rattle.ep_drill.specs.Calls.{event_of};
 ghost use Rattle.hold_stage.specs.Stays.{KeptBut};
 ghost use Rattle.ep_drill.specs.StoreSide.{IsPaged};
-ghost use Rattle.ep_drill.specs.Callers.{owned_data};
-ghost use Rattle.ep_drill.specs.Core.{bench_data, BenchStands, LacksRoom, Ready, Moved, Rested, Worked};
-ghost use Rattle.ep_drill.specs.Tries.{ComesToGet, ComesToSet, ComesTo};
+ghost use Rattle.ep_drill.specs.Callers.{loaded_data, owned_data};
+ghost use Rattle.ep_drill.specs.Core.{bench_data, BenchStands, LacksCallRoom, LacksRoom, MayWant, Ready, Moved, Rested, Worked};
+ghost use Rattle.ep_drill.specs.Tries.{AddsPlace, ComesToGet, ComesToSet, ComesTo, PutsDocument};
 ghost use Rattle.ep_drill.specs.Works.{MarksAt};
 
 use crate::bench::Bench;
@@ -60,6 +60,8 @@ fn get_at(
     ensures kept { KeptBut config.now (touches_call config.now (GetData key.now.bytes.items))
         (part_in world.old vb) (part_in world.new vb) }
     ensures err { OnErr result (Rested config.now world.old world.new) }
+    ensures memory { OnErr result (LacksCallRoom world.old ⊎ AddsPlace config.now.stripes
+        (part_in world.old vb) prior key.now.bytes.items now) }
     ensures sound { Sound part_stands world.new }
     ensures value { value.new.spare + length value.new.bytes ≡ max_value }
 {
@@ -105,6 +107,9 @@ fn set_at(
         (StoreData SetKind call.now.key.bytes.items call.now.value.items call.now.flags
         call.now.expiration call.now.cas)) (part_in world.old vb) (part_in world.new vb) }
     ensures err { OnErr result (Rested config.now world.old world.new) }
+    ensures memory { OnErr result (LacksCallRoom world.old ⊎ PutsDocument config.now.stripes
+        (fit_of config.now) (part_in world.old vb) prior call.now.key.bytes.items
+        call.now.value.items call.now.flags call.now.expiration call.now.cas now) }
     ensures sound { Sound part_stands world.new }
 {
     if world.reserve(1, EVENT_BYTES).is_err() {
@@ -154,6 +159,8 @@ pub(crate) fn try_loaded(
     ensures kept { KeptBut config.now (touches_call config.now (owned_data loaded.now.call))
         (part_in world.old loaded.now.vb) (part_in world.new loaded.now.vb) }
     ensures err { OnErr result (Rested config.now world.old world.new) }
+    ensures memory { OnErr result (MayWant config.now world.old
+        (loaded_data loaded.now) now prior) }
     ensures sound { Sound part_stands world.new }
     ensures value { value.new.spare + length value.new.bytes ≡ max_value }
 {

@@ -19,3 +19,10 @@ returns-in-Err-clause-err c =
     let at : slice_get c.args.caller.now.calls.items c.args.caller.now.answered ≡ Some c.in-Some.loaded.now =
     subst (λ (xs : List Loaded). slice_get xs c.args.caller.now.answered ≡ Some c.in-Some.loaded.now) c.deref.ensures.value (lent_at c.deref.result.now c.args.caller.now.answered c.in-Some.loaded.now l.3.0 l.1) in
     (c.in-Err.ensures.err, refl, is_next c.args.caller.now c.in-Some.loaded.now at)
+
+pub returns-in-Err-clause-memory : goal.returns-in-Err-clause-memory
+returns-in-Err-clause-memory c =
+    let l = c.in-Some.ensures.lookup in
+    let at : slice_get c.args.caller.now.calls.items c.args.caller.now.answered ≡ Some c.in-Some.loaded.now =
+    subst (λ (xs : List Loaded). slice_get xs c.args.caller.now.answered ≡ Some c.in-Some.loaded.now) c.deref.ensures.value (lent_at c.deref.result.now c.args.caller.now.answered c.in-Some.loaded.now l.3.0 l.1) in
+    (loaded_data c.in-Some.loaded.now, get_told loaded_data c.args.caller.now.calls.items c.args.caller.now.answered c.in-Some.loaded.now at, c.in-Err.ensures.memory)

@@ -3,7 +3,7 @@ use Rattle.std.specs.Prelude.{Result, IfOk, OnErr}
 use Rattle.ep_model.specs.declared.memory.NoMemory.{NoMemory}
 use Rattle.ep_drill.specs.declared.choice.Answer.{Answer}
 use Rattle.ep_drill.specs.Core.{core_data}
-use Rattle.ep_drill.specs.Stepped.{IsFronted, IsIdle, Spares}
+use Rattle.ep_drill.specs.Stepped.{IsFronted, Spares, TurnTakes}
 use Rattle.std.specs.Vec.{vec_len}
 use Rattle.std.proofs.lemmas.Option.{slice_get_read}
 use Rattle.ep_drill.proofs.TurnLemmas.{turned_at, fronted_at, front_spared, caller_of, caller_back, no_caller}
@@ -78,9 +78,9 @@ returns-clause-err g c =
     let within : c.from.result < vec_len o.callers = c.in-Some.ensures.variant.0 refl in
     let at : slice_get o.callers.items c.from.result ≡ Some c.in-Some.caller.now = slice_get_read o.callers.items (vec_len o.callers) c.from.result c.in-Some.caller.now count within c.in-Some.ensures.value in
     let s = front_spared c.args.self.now o.config o.world t.new.world o.benches.items o.callers.items c.from.result c.args.number c.args.now c.in-Some.caller.now t.new.caller t.result
-    c.self.view_is c.from.ensures at (search rules) t.ensures.err in
+    c.self.view_is c.from.ensures at (search rules) t.ensures.err t.ensures.memory in
     let last = core_data o.config t.new.world o.benches.items (slice_set o.callers.items c.from.result t.new.caller) in
-    subst (λ (r : Result Answer NoMemory). OnErr r (Spares c.args.self.now last × (IsIdle c.args.self.now c.args.number c.args.now → ⊥))) (sym c.answer_of.ensures) s
+    subst (λ (r : Result Answer NoMemory). OnErr r (Spares c.args.self.now last × TurnTakes c.args.self.now c.args.number c.args.now)) (sym c.answer_of.ensures) s
 
 pub returns-in_default-clause-goes_on : goal.returns-in_default-clause-goes_on
 returns-in_default-clause-goes_on g c = stays_on _ _ (search rules)
