@@ -137,8 +137,10 @@ fn benches_of<K: Keeper>(
     reads: Vec<Vec<Option<Fetched>>>,
 ) -> Result<Vec<Bench<K>>, Vec<K>>
     requires { AreFresh (map K.seen keepers.items) }
-    ensures ok { (stripes : ℕ) → map reads_in reads.items ≡ copies (length keepers.items) (copies stripes None) →
-        IfOk result (λ benches. map bench_data benches.items ≡ map (bench_over (copies stripes None)) (map K.seen keepers.items)) }
+    ensures ok { (stripes : ℕ)
+        → map reads_in reads.items ≡ copies (length keepers.items) (copies stripes None)
+        → IfOk result (λ benches. map bench_data benches.items
+        ≡ map (bench_over (copies stripes None)) (map K.seen keepers.items)) }
     ensures err { IfErr result (λ back. back.items ≡ keepers.items) }
 {
     let Ok(mut benches) = Vec::with_capacity(alloc, keepers.len()) else {
