@@ -22,7 +22,7 @@ use Rattle.vb_front.specs.Reads.{Read, read_refused, read_asks, read_waits, read
 use Rattle.vb_front.proofs.ReadLemmas.{active_is}
 
 -- memory lacks what the node lacks
-away_from : (slot : Slot) (e : Eviction) → slot_memory e slot ≡ Away → IsAwayFrom slot e
+pub away_from : (slot : Slot) (e : Eviction) → slot_memory e slot ≡ Away → IsAwayFrom slot e
 away_from None Value is = absurd (cc)
 away_from None Full is = tt
 away_from (Some node) e is = elim e as (λ (v : Eviction). slot_memory v (Some node) ≡ Away → node.value ≡ None) [ Value ↦ at node.value refl | Full ↦ at node.value refl ] is

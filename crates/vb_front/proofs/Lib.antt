@@ -23,6 +23,7 @@ pub mod WriteLemmas
 pub mod RoomLemmas
 pub mod GetRoomLemmas
 pub mod WriteExactLemmas
+pub mod WayLemmas
 pub mod TryLemmas
 pub mod BareLemmas
 pub mod WorldLemmas

@@ -9,6 +9,7 @@ pub mod Writes
 pub mod WriteSteps
 pub mod Controls
 pub mod Desks
+pub mod Ways
 pub mod Laws
 pub mod Queues
 pub mod Batches

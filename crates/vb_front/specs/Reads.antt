@@ -168,8 +168,8 @@ IsFreed old prior (steps.Refused cause) new = new ≡ release old.book prior
 IsFreed old prior (steps.Fetch ticket) new = Unit {0}
 IsFreed old prior steps.FetchFull new = new ≡ release old.book prior
 
--- No two of the conditions under which a Get comes to a step meet, and one of them always holds: so it comes to each step
--- exactly where the step's own condition holds.
+-- The condition of the step to which a Get comes holds. No two of the conditions meet (`Ways`), so it comes to each step exactly
+-- where the step's own condition holds.
 pub record ReadIsExact (old : StripePart) (key : List ℕ) (prior : Option Ticket) (r : Read) : Type 0 where
   pub comes : ComesTo old key prior r.step r.part.book
   pub freed : IsFreed old prior r.step r.part.book

@@ -119,8 +119,8 @@ WriteFrees part prior (steps.Refused cause) act new = new ≡ release part.book 
 WriteFrees part prior (steps.Fetch ticket) act new = Unit {0}
 WriteFrees part prior steps.FetchFull act new = new ≡ release part.book prior
 
--- No two of the conditions meet, and one of them always holds: so a call comes to each step exactly where the step's own
--- condition holds.
+-- The condition of the step to which a call comes holds. No two of the conditions meet (`Ways`), so it comes to each step
+-- exactly where the step's own condition holds.
 pub record WriteIsExact (part : StripePart) (q : QueueData) (call : CallData) (key : List ℕ) (now : ℕ) (prior : Option Ticket) (w : Write) : Type 0 where
   pub comes : WriteComesTo part q call key now prior w.step w.book
   pub freed : WriteFrees part prior w.step w.act w.book

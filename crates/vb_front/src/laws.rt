@@ -1,7 +1,10 @@
-//! What is true of all parts, desks and batches that stand for a history. Each function does nothing: its contract is the
-//! law.
+//! What is true of all parts, desks and batches that stand for a history, and of all steps of calls. Each function does
+//! nothing: its contract is the law.
 ghost use Rattle.vb_front.specs.Laws.{EmptyStripesStand, EmptyQueuesStand, DesksStandOn, BatchesStandOn, PriorsStandOn};
 ghost use Rattle.vb_front.specs.Laws.{BatchesStandAbove, DesksStore, DesksFail};
+ghost use Rattle.vb_front.specs.Ways.{ReadStepsAreApart, ReadFollowsItsCondition, WaitingReadsAskNothing};
+ghost use Rattle.vb_front.specs.Ways.{WriteStepsAreApart, WriteFollowsItsCondition, WaitingWritesAskNothing};
+ghost use Rattle.vb_front.specs.Ways.{RoomLacksForOne};
 
 /// Parts that have nothing stand for a history in which nothing happened, before a start is put and behind any start.
 pub fn empty_parts_stand()
@@ -21,4 +24,19 @@ pub fn desks_stand_behind_their_events()
     ensures stores { DesksStore }
     ensures fails { DesksFail }
     ensures batches { BatchesStandAbove }
+{}
+
+/// No two of the conditions meet under which a Get comes to a step. So it comes to the step whose condition holds.
+pub fn reads_come_to_one_step()
+    ensures apart { ReadStepsAreApart }
+    ensures follows { ReadFollowsItsCondition }
+    ensures waits { WaitingReadsAskNothing }
+{}
+
+/// Nor do two meet of a call that may put a document, and it lacks room for one reason.
+pub fn writes_come_to_one_step()
+    ensures apart { WriteStepsAreApart }
+    ensures follows { WriteFollowsItsCondition }
+    ensures waits { WaitingWritesAskNothing }
+    ensures room { RoomLacksForOne }
 {}

@@ -1,0 +1,55 @@
+-- That no two of the conditions meet under which a call on held parts comes to a step.
+use Rattle.std.specs.Prelude.{◌≡◌, ℕ, List, Option, Some, None}
+use Rattle.ep_model.specs.declared.event.Ticket.{Ticket}
+use Rattle.ep_model.specs.declared.data.CallData.{CallData}
+use Rattle.ep_model.specs.Calls.{written_key}
+use Rattle.fetch_book.specs.Books.{BookData}
+use Rattle.ckpt_manager.specs.declared.data.QueueData.{QueueData}
+use Rattle.vb_front.specs.declared.part.StripePart.{StripePart}
+use Rattle.vb_front.specs.declared.step.Step.{Step}
+use Rattle.vb_front.specs.declared.step.Step.TheVariants as steps
+use Rattle.vb_front.specs.Reads.{read_step, ComesTo, WaitsOn, AsksAnew}
+use Rattle.vb_front.specs.Writes.{write_step}
+use Rattle.vb_front.specs.WriteSteps.{WriteComesTo, LacksRoom, IsWithoutRoomFor, Waits, Asks}
+
+-- which step it is, with its cause and its ticket, and none where it is answered, whatever the reply
+abbrev pub way_of : Step → Option Step
+way_of (steps.Done reply) = None
+way_of (steps.Refused cause) = Some (steps.Refused cause)
+way_of (steps.Fetch ticket) = Some (steps.Fetch ticket)
+way_of steps.FetchFull = Some steps.FetchFull
+
+-- Two steps of which each has its condition for a Get are the same, but for the reply of an answer.
+abbrev pub ReadStepsAreApart : Type 0
+ReadStepsAreApart = (old : StripePart) (key : List ℕ) (prior : Option Ticket) (one other : Step) (book left : BookData)
+    → ComesTo old key prior one book → ComesTo old key prior other left → way_of one ≡ way_of other
+
+-- So a Get comes to the step whose condition holds.
+abbrev pub ReadFollowsItsCondition : Type 0
+ReadFollowsItsCondition = (old : StripePart) (key : List ℕ) (prior : Option Ticket) (now : ℕ) (step : Step) (book : BookData)
+    → ComesTo old key prior step book → way_of (read_step old prior key now).step ≡ way_of step
+
+-- Nor does one ask anew where it waits on.
+abbrev pub WaitingReadsAskNothing : Type 0
+WaitingReadsAskNothing = (old : StripePart) (key : List ℕ) (prior : Option Ticket) (one other : Ticket) (book left : BookData)
+    → WaitsOn old key prior one book → AsksAnew old key prior other left → ⊥
+
+-- The same of a call that may put a document.
+abbrev pub WriteStepsAreApart : Type 0
+WriteStepsAreApart = (part : StripePart) (q : QueueData) (call : CallData) (key : List ℕ) (now : ℕ) (prior : Option Ticket)
+    → (one other : Step) (book left : BookData) → WriteComesTo part q call key now prior one book
+    → WriteComesTo part q call key now prior other left → way_of one ≡ way_of other
+
+abbrev pub WriteFollowsItsCondition : Type 0
+WriteFollowsItsCondition = (part : StripePart) (q : QueueData) (call : CallData) (key : List ℕ) (now : ℕ) (prior : Option Ticket)
+    → (step : Step) (book : BookData) → written_key call ≡ Some key → WriteComesTo part q call key now prior step book
+    → way_of (write_step part q prior call key now).step ≡ way_of step
+
+abbrev pub WaitingWritesAskNothing : Type 0
+WaitingWritesAskNothing = (part : StripePart) (call : CallData) (key : List ℕ) (prior : Option Ticket) (one other : Ticket) (book left : BookData)
+    → Waits part call key prior one book → Asks part call key prior other left → ⊥
+
+-- A call lacks room for one reason: for the document that it needs, or for the one that it puts.
+abbrev pub RoomLacksForOne : Type 0
+RoomLacksForOne = (part : StripePart) (q : QueueData) (call : CallData) (key : List ℕ) (now : ℕ) (prior : Option Ticket)
+    → IsWithoutRoomFor part q call key prior → LacksRoom part q call key now prior → ⊥
