@@ -6,7 +6,7 @@ use Rattle.ep_model.specs.declared.data.FrontData.{FrontData}
 use Rattle.ep_model.specs.Front.{with_event}
 use Rattle.ep_model.specs.Legal.{May, IsLegal}
 use Rattle.hold_stage.specs.Touches.{touches, is_of, bytes_of}
-use Rattle.hold_stage.specs.Grows.{Among, Grown}
+use Rattle.hold_stage.specs.Grows.{Grown}
 
 -- a front with an event more, or with none
 abbrev pub with_noted : FrontData → Option EventData → FrontData
@@ -51,11 +51,3 @@ KeepsUntouched {P} stands = (p : PartName) (f : FrontData) (event : EventData) (
 -- there is room for an event of at most so many bytes
 abbrev pub HasRoom : ℕ → (ℕ → ℕ → Type 0) → Type 0
 HasRoom most covers = (n b : ℕ) → n ≤ 1 → b ≤ most → covers n b
-
--- Somebody else had a part, which a stage found on its way: when it held what it had held, and maybe more, and others may
--- have noted something.
-pub record WasElsewhere {A : Type 0} (front : A → FrontData) (holds : A → PartName → Bool) (number : A → ℕ) (is_desk : A → Bool) (is_elsewhere : A → PartName → Type 0) (old : A) (part : PartName) : Type 0 where
-  pub at : A
-  pub grown : Grown (front old) (front at) (holds old) (number old) (is_desk old)
-  pub among : Among (holds old) (holds at)
-  pub elsewhere : is_elsewhere at part

@@ -1,5 +1,5 @@
 -- What a call at a stage came to, what is noted of it, and what that leaves.
-use Rattle.std.specs.Prelude.{◌≡◌, ℕ, ◌+◌, ◌≤◌, Bool, true, false, List, ◌∷◌, ◌++◌, [], length, Option, Some, None, Result, Ok, Err, IfOk, IfErr, MatchResult}
+use Rattle.std.specs.Prelude.{◌≡◌, ℕ, ◌+◌, ◌≤◌, Bool, true, false, List, ◌∷◌, ◌++◌, [], length, Option, Some, None, Result, Ok, Err, IsSome, IfOk, IfErr, MatchResult}
 use Rattle.std.specs.Option.{option_map}
 use Rattle.ep_model.specs.declared.config.Config.{Config}
 use Rattle.ep_model.specs.declared.event.Busy.{Busy}
@@ -19,7 +19,7 @@ use Rattle.ep_model.specs.Statuses.{status_of}
 use Rattle.ep_model.specs.Stripes.{stripe_of}
 use Rattle.hold_stage.specs.Touches.{there, touches_call}
 use Rattle.hold_stage.specs.Grows.{Among, Grown}
-use Rattle.hold_stage.specs.Went.{with_noted, Went, LeavesRoom, WasElsewhere}
+use Rattle.hold_stage.specs.Went.{with_noted, Went, LeavesRoom}
 use Rattle.hold_stage.specs.Stays.{KeptBut}
 use Rattle.ep_edge.specs.declared.gate.Point.{Point}
 use Rattle.ep_edge.specs.declared.gate.Point.TheVariants.{InStripe, Answered}
@@ -85,10 +85,30 @@ pub record GetsFrom (old new : Option Part) (prior : Option Ticket) (key : List 
   pub exact : ReadIsExact part key prior (read_step part prior key now)
   pub behind : new ≡ Some (parts.Stripe (read_step part prior key now).part)
 
--- A part was not at home, and all parts that the vBucket has are where they were.
-pub record IsOut (config : Config) (part : PartName) (old new : PartName → Option Part) : Type 0 where
+-- This is so of the part that such a call takes before this one, where there is one: a call that may put a document takes the
+-- stripe of its key before the queue.
+abbrev pub Ahead : Kind → ℕ → PartName → (PartName → Type 0) → Type 0
+Ahead kinds.Read stripe part so = Unit {0}
+Ahead kinds.Write stripe (names.Stripe other) so = Unit {0}
+Ahead kinds.Write stripe names.Queue so = so (names.Stripe stripe)
+Ahead kinds.Write stripe names.Desk so = Unit {0}
+Ahead kinds.Control stripe part so = Unit {0}
+Ahead kinds.Change stripe part so = Unit {0}
+
+-- A part was not at home, and one that is taken before it was. All parts that the vBucket has are where they were.
+pub record IsOut (config : Config) (kind : Kind) (stripe : ℕ) (part : PartName) (old new : PartName → Option Part) : Type 0 where
   pub out : old part ≡ None
+  pub ahead : Ahead kind stripe part (λ p. IsSome (old p))
   pub same : (p : PartName) → there config p ≡ true → new p ≡ old p
+
+-- Somebody else had a part, which a stage found on its way: when it held what it had held, and maybe more, among it the part that
+-- is taken before this one, and others may have noted something.
+pub record WasElsewhere {A : Type 0} (front : A → FrontData) (holds : A → PartName → Bool) (number : A → ℕ) (is_desk : A → Bool) (is_elsewhere : A → PartName → Type 0) (kind : Kind) (stripe : ℕ) (old : A) (part : PartName) : Type 0 where
+  pub at : A
+  pub grown : Grown (front old) (front at) (holds old) (number old) (is_desk old)
+  pub among : Among (holds old) (holds at)
+  pub ahead : Ahead kind stripe part (λ p. holds at p ≡ true)
+  pub elsewhere : is_elsewhere at part
 
 -- A call on the vBucket as a whole came to what it comes to on the queue as it was taken.
 pub record Controls (f : FrontData) (held : PartName → Bool) (caller : ℕ) (desk : Bool) (id : ℕ) (call : CallData) (value : List ℕ) (step : Step) : Type 0 where
@@ -202,7 +222,8 @@ ComesFrom kinds.Change id stripe old new prior call now value step = ⊥
 -- What is true of a call that was tried at a stage.
 -- `came`, `stripe`, `here`, `is`: what it came to, on a key of this stripe where it has a key, is what is answered;
 -- `went`, `room`: others' events and then its own, once and last, or none, were noted, and the room that this leaves;
--- `found`, `elsewhere`: it is busy only where it found a part taken that it touches, which somebody else had;
+-- `found`, `elsewhere`: it is busy only where it found a part taken that it touches, which somebody else had, while it held
+-- what it takes before that;
 -- `comes`: what it came to is what its parts and its rules say, whatever others noted before these were taken;
 -- `bare`, `short`: its value is empty unless it is answered, and within the limit;
 -- `alone`, `becomes`, `kept`: while nobody else notes anything, the history has its event more; its parts are left as it leaves
@@ -216,10 +237,10 @@ pub record Tries {A : Type 0} (front : A → FrontData) (holds : A → PartName 
   pub went : Went (front old) (front new) (holds old) (number old) (is_desk old) (event_by (number old) call now prior value came)
   pub room : LeavesRoom (covers old) (covers new) (event_by (number old) call now prior value came)
   pub found : MatchResult came (λ _. losses new ≡ losses old) (λ b. (touches_call (front old).config call b.part ≡ true) × Rose (losses old) (losses new))
-  pub elsewhere : IfErr came (λ b. WasElsewhere front holds number is_desk is_elsewhere old b.part)
+  pub elsewhere : IfErr came (λ b. WasElsewhere front holds number is_desk is_elsewhere (kind_of call) stripe old b.part)
   pub comes : IfOk came (Comes (kind_of call) (front old) (holds old) (number old) (is_desk old) stripe prior call now value)
   pub bare : IfOk came (λ step. IsValueOf step value)
   pub short : IfOk came (λ _. length value ≤ max_value)
   pub alone : is_telling old ≡ true → front new ≡ with_noted (front old) (event_by (number old) call now prior value came)
-  pub becomes : is_telling old ≡ true → MatchResult came (ComesFrom (kind_of call) (front old).id stripe (tells old) (tells new) prior call now value) (λ b. IsOut (front old).config b.part (tells old) (tells new))
+  pub becomes : is_telling old ≡ true → MatchResult came (ComesFrom (kind_of call) (front old).id stripe (tells old) (tells new) prior call now value) (λ b. IsOut (front old).config (kind_of call) stripe b.part (tells old) (tells new))
   pub kept : is_telling old ≡ true → KeptBut (front old).config (touches_call (front old).config call) (tells old) (tells new)

@@ -12,14 +12,14 @@ ghost use Rattle.ep_model.specs.Stripes.{stripe_of};
 ghost use Rattle.hold_stage.specs.Grows.{Same};
 ghost use Rattle.hold_stage.specs.Stays.{Stays, KeptBut};
 ghost use Rattle.hold_stage.specs.Touches.{there, is_stripe, is_queue, touches_call};
-ghost use Rattle.hold_stage.specs.Went.{with_noted, Went, LeavesRoom, WasElsewhere, HasRoom};
+ghost use Rattle.hold_stage.specs.Went.{with_noted, Went, LeavesRoom, HasRoom};
 ghost use Rattle.vb_front.specs.Controls.{is_control};
 ghost use Rattle.vb_front.specs.Priors.{key_in, event_of};
 ghost use Rattle.hold_stage.specs.Priors.{is_prior, PriorsStand};
 ghost use Rattle.vb_front.specs.Tries.{call_bytes, event_by, passed_by, Gets, GetsFrom, IsOut};
-ghost use Rattle.vb_front.specs.Tries.{Controls, ControlsFrom, Writes, WritesFrom, IsValueOf, IfBusy};
+ghost use Rattle.vb_front.specs.Tries.{Controls, ControlsFrom, Writes, WritesFrom, WasElsewhere, IsValueOf, IfBusy};
 ghost use Rattle.vb_front.specs.Tries.{kind_of, tried_by, answered_on, passed_on, Tries};
-ghost use Rattle.vb_front.specs.declared.at_stage.Kind.TheVariants.{Change};
+ghost use Rattle.vb_front.specs.declared.at_stage.Kind.TheVariants.{Read, Write, Control, Change};
 
 use crate::controls::control;
 use crate::get::read;
@@ -203,7 +203,7 @@ pub(crate) fn try_get<S: Stage<Part = Part>, G: Gate>(
     ensures found { MatchResult result (λ _. S.losses stage.new ≡ S.losses stage.old)
         (λ b. (b.part ≡ Stripe stripe) × Rose (S.losses stage.old) (S.losses stage.new)) }
     ensures elsewhere { IfErr result (λ b. WasElsewhere S.front S.holds S.number S.is_desk
-        S.elsewhere stage.old b.part) }
+        S.elsewhere Read stripe stage.old b.part) }
     ensures gets { IfOk result (Gets (S.front stage.old) (S.holds stage.old) (S.number stage.old) (S.is_desk stage.old) stripe
         prior (key_in (call_data call.now)) now value.new.bytes) }
     ensures passed { G.passed gate.new ≡ passed_by stripe result (G.passed gate.old) }
@@ -211,7 +211,7 @@ pub(crate) fn try_get<S: Stage<Part = Part>, G: Gate>(
         (event_by (S.number stage.old) (call_data call.now) now prior value.new.bytes result) }
     ensures becomes { S.is_telling stage.old ≡ true → MatchResult result (GetsFrom (S.tells stage.old (Stripe stripe))
         (S.tells stage.new (Stripe stripe)) prior (key_in (call_data call.now)) now value.new.bytes)
-        (λ b. IsOut (S.front stage.old).config b.part (S.tells stage.old) (S.tells stage.new)) }
+        (λ b. IsOut (S.front stage.old).config Read stripe b.part (S.tells stage.old) (S.tells stage.new)) }
     ensures kept { S.is_telling stage.old ≡ true → KeptBut (S.front stage.old).config (is_stripe stripe) (S.tells stage.old)
         (S.tells stage.new) }
     ensures bare { IfOk result (λ step. IsValueOf step value.new.bytes) }
@@ -253,14 +253,14 @@ pub(crate) fn try_control<S: Stage<Part = Part>>(
     ensures found { MatchResult result (λ _. S.losses stage.new ≡ S.losses stage.old)
         (λ b. (b.part ≡ Queue) × Rose (S.losses stage.old) (S.losses stage.new)) }
     ensures elsewhere { IfErr result (λ b. WasElsewhere S.front S.holds S.number S.is_desk
-        S.elsewhere stage.old b.part) }
+        S.elsewhere Control 0 stage.old b.part) }
     ensures controls { IfOk result (Controls (S.front stage.old) (S.holds stage.old) (S.number stage.old) (S.is_desk stage.old)
         vb (call_data call.now) value.new.bytes) }
     ensures alone { S.is_telling stage.old ≡ true → S.front stage.new ≡ with_noted (S.front stage.old)
         (event_by (S.number stage.old) (call_data call.now) now None value.new.bytes result) }
     ensures becomes { S.is_telling stage.old ≡ true → MatchResult result (ControlsFrom (S.tells stage.old Queue)
         (S.tells stage.new Queue) vb (call_data call.now) value.new.bytes)
-        (λ b. IsOut (S.front stage.old).config b.part (S.tells stage.old) (S.tells stage.new)) }
+        (λ b. IsOut (S.front stage.old).config Control 0 b.part (S.tells stage.old) (S.tells stage.new)) }
     ensures kept { S.is_telling stage.old ≡ true → KeptBut (S.front stage.old).config is_queue (S.tells stage.old)
         (S.tells stage.new) }
     ensures bare { IfOk result (λ step. IsValueOf step value.new.bytes) }
@@ -311,7 +311,7 @@ pub(crate) fn try_write<S: Stage<Part = Part>, G: Gate>(
     ensures found { MatchResult result (λ _. S.losses stage.new ≡ S.losses stage.old)
         (λ b. ((is_stripe stripe b.part || is_queue b.part) ≡ true) × Rose (S.losses stage.old) (S.losses stage.new)) }
     ensures elsewhere { IfErr result (λ b. WasElsewhere S.front S.holds S.number S.is_desk
-        S.elsewhere stage.old b.part) }
+        S.elsewhere Write stripe stage.old b.part) }
     ensures writes { IfOk result (Writes (S.front stage.old) (S.holds stage.old) (S.number stage.old) (S.is_desk stage.old) stripe
         prior (call_data call.now) now value.new.bytes) }
     ensures passed { G.passed gate.new ≡ passed_by stripe result (G.passed gate.old) }
@@ -320,7 +320,7 @@ pub(crate) fn try_write<S: Stage<Part = Part>, G: Gate>(
     ensures becomes { S.is_telling stage.old ≡ true → MatchResult result (WritesFrom (S.tells stage.old (Stripe stripe))
         (S.tells stage.new (Stripe stripe)) (S.tells stage.old Queue) (S.tells stage.new Queue) prior (call_data call.now) now
         value.new.bytes)
-        (λ b. IsOut (S.front stage.old).config b.part (S.tells stage.old) (S.tells stage.new)) }
+        (λ b. IsOut (S.front stage.old).config Write stripe b.part (S.tells stage.old) (S.tells stage.new)) }
     ensures kept { S.is_telling stage.old ≡ true → KeptBut (S.front stage.old).config (λ p. is_stripe stripe p || is_queue p)
         (S.tells stage.old) (S.tells stage.new) }
     ensures bare { IfOk result (λ step. IsValueOf step value.new.bytes) }
