@@ -24,6 +24,7 @@ pub mod RoomLemmas
 pub mod GetRoomLemmas
 pub mod WriteExactLemmas
 pub mod WayLemmas
+pub mod StripeLemmas
 pub mod TryLemmas
 pub mod BareLemmas
 pub mod WorldLemmas

@@ -132,12 +132,12 @@ slot_length : (slots : List Slot) (o : Option ℕ) (content : Slot) → length (
 slot_length slots None content = refl
 slot_length slots (Some slot) content = length-set slots slot content
 
-restored_length : (e : Eviction) (mark need : ℕ) (node : NodeData) (old new : List Slot) → Restores e mark need node old new → length new ≡ length old
+pub restored_length : (e : Eviction) (mark need : ℕ) (node : NodeData) (old new : List Slot) → Restores e mark need node old new → length new ≡ length old
 restored_length e mark need node old new r =
     ap length r.puts ∙ slot_length r.room (slot_for r.room node.key) (Some node) ∙ others_length e mark node.key need old r.room r.ejects
 
 -- a document with the number that it takes
-item_doc : (key : List ℕ) (doc : Doc) (n : ℕ) → doc.seqno ≡ n → doc_from (item_of key (meta_of doc) doc.value n).meta doc.value ≡ doc
+pub item_doc : (key : List ℕ) (doc : Doc) (n : ℕ) → doc.seqno ≡ n → doc_from (item_of key (meta_of doc) doc.value n).meta doc.value ≡ doc
 item_doc key doc n is = ap (λ m. record doc { seqno = m }) (sym is)
 
 module _ (f : FrontData) (stripe caller now : ℕ) (call : CallData) (key : List ℕ) (written : written_key call ≡ Some key) (keyed : IsKey key) (legal : IsLegal f) (here : stripe_of key f.config.stripes ≡ stripe) where

@@ -12,5 +12,6 @@ pub mod Desks
 pub mod Ways
 pub mod Laws
 pub mod Queues
+pub mod StripeLaws
 pub mod Batches
 pub mod Tries

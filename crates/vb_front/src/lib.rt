@@ -9,6 +9,7 @@ pub mod laws;
 mod part;
 pub mod queue_laws;
 mod step;
+pub mod stripe_laws;
 mod wait;
 mod writes;
 
