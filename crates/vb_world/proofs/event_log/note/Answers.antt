@@ -1,6 +1,7 @@
 -- Bytes put behind those that are kept leave each event as it was.
-use Rattle.std.proofs.Common.{◌∙◌, ap}
-use Rattle.vb_world.specs.EventLog.{pairs_in}
+use Rattle.std.proofs.Common.{rules, ℕ, List, length, ◌∙◌, ap, subst, sym}
+use Rattle.vb_world.specs.declared.event_log.KeptEvent.{KeptEvent}
+use Rattle.vb_world.specs.EventLog.{AreInside, pairs_in}
 use Rattle.vb_world.proofs.KeptLemmas.{kept_inside, kept_pairs, are_inside-push, err_here, push_kept}
 use Rattle.vb_world.proofs.event_log.note.Goals as goal
 
@@ -16,9 +17,14 @@ returns-in_err-push-clause-err c =
 
 pub returns-clause-whole : goal.returns-clause-whole
 returns-clause-whole c =
-    rw c.in_ok-push.ensures.items (are_inside-push _ _ _ (kept_inside _ _ _ c.keep_event.ensures.extends c.requires.whole) c.in_ok-kept.ensures.inside)
+    let done =
+    subst (λ (l : List (ℕ × KeptEvent)). AreInside (length c.keep_event.new.bytes.items) l) (sym c.in_ok-push.ensures.items)
+    (are_inside-push _ _ _ (kept_inside _ _ _ c.keep_event.ensures.extends c.requires.whole) c.in_ok-kept.ensures.inside) in
+    search rules
 
 pub returns-clause-ok : goal.returns-clause-ok
 returns-clause-ok c =
+    let done =
     ap (pairs_in c.keep_event.new.bytes.items) c.in_ok-push.ensures.items
-    ∙ push_kept _ _ _ _ _ _ c.keep_event.ensures.extends c.requires.whole c.in_ok-kept.ensures.same
+    ∙ push_kept _ _ _ _ _ _ c.keep_event.ensures.extends c.requires.whole c.in_ok-kept.ensures.same in
+    search rules
