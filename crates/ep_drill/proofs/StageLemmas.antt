@@ -27,7 +27,7 @@ use Rattle.ep_drill.specs.declared.store.Flushed.TheVariants as flushes
 use Rattle.ep_drill.specs.Numbers.{numbers_of}
 use Rattle.ep_drill.proofs.NumbersLemmas.{laid_alike}
 use Rattle.ep_drill.specs.Stands.{QueueStands, DeskStands, BatchStands}
-use Rattle.ep_drill.specs.StoreSide.{IsTaken, IsFlushed, whole}
+use Rattle.ep_drill.specs.StoreSide.{IsTaken, IsFlushed, state_for, whole}
 use Rattle.ep_drill.proofs.StoreLemmas.{batch_taken, has_start}
 use Rattle.ep_drill.proofs.PartLemmas.{may_persist, persisted_queue, persisted_desk, doubted_desk}
 
@@ -49,11 +49,11 @@ laid_more first rows more items i key other doc same before is key-is doc-is add
     ∙ sym (ap (laid_on (laid first docs)) (take_more items i (key, doc) is))
 
 -- What a queue holds makes a batch that stands and goes up to the last mutation, where not all of it is stored.
-pub taken_stands : (f₀ f : FrontData) (desk : DeskData) (high persisted top most : ℕ) (q : QueueData) (empty filled : BatchData)
+pub taken_stands : (f₀ f : FrontData) (desk : DeskData) (high persisted : ℕ) (q : QueueData) (empty filled : BatchData)
     → f ≡ f₀ → DeskStands f₀ desk → IsLegal f → QueueStands f q → high ≡ q.high → persisted ≡ q.persisted → (high ≡ persisted → ⊥)
-    → top ≡ q.high → most ≡ q.maxcas → empty ≡ empty_batch top most → filled.to ≡ empty.to → filled.maxcas ≡ empty.maxcas → ((docs : Docs) → laid filled.rows docs ≡ laid_on (laid empty.rows docs) q.items)
+    → empty ≡ empty_batch q.high q.maxcas → filled.to ≡ empty.to → filled.maxcas ≡ empty.maxcas → ((docs : Docs) → laid filled.rows docs ≡ laid_on (laid empty.rows docs) q.items)
     → AreDistinct filled.rows → IsTaken f₀ desk.stored (Some filled)
-taken_stands f₀ f desk high persisted top most q empty filled front d legal s high-is persisted-is differs top-is most-is begins to maxcas laid-is distinct =
+taken_stands f₀ f desk high persisted q empty filled front d legal s high-is persisted-is differs begins to maxcas laid-is distinct =
     let d-low = d.low in
     let stored-is = ap (λ (g : FrontData). (world_of g).persisted) front in
     let high-of = ap (λ (g : FrontData). (world_of g).high) front in
@@ -61,12 +61,12 @@ taken_stands f₀ f desk high persisted top most q empty filled front d legal s 
     let all = s.high in let known = s.persisted in
     let there : IsLegal f₀ = subst IsLegal front legal in
     let d-top = d.top (has_start f₀ there (opened_unstored f₀ there (omega arith))) in
-    let whole : filled.to ≡ q.high = to ∙ ap (λ (b : BatchData). b.to) begins ∙ top-is in
+    let whole : filled.to ≡ q.high = to ∙ ap (λ (b : BatchData). b.to) begins in
     let lays : (docs : Docs) → laid filled.rows docs ≡ laid_on docs q.items = λ docs. laid-is docs ∙ ap (λ (b : BatchData). laid_on (laid b.rows docs) q.items) begins in (
       subst (λ (g : FrontData). BatchStands g desk.stored filled) front
           (batch_taken f q filled desk.stored legal s (omega arith) (omega arith) (omega arith)
           whole
-          (maxcas ∙ ap (λ (b : BatchData). b.maxcas) begins ∙ most-is)
+          (maxcas ∙ ap (λ (b : BatchData). b.maxcas) begins)
           lays),
       whole ∙ s.high ∙ ap (λ (g : FrontData). (world_of g).high) front,
       distinct,
@@ -106,16 +106,10 @@ module _ (f₀ f₁ f : FrontData) (desk : DeskData) (number : ℕ) (batch : Bat
       (persisted_queue f₀ desk batch legal d sure b q (subst (λ (x : FrontData). QueueStands x q) first s)))
 
 -- how a commit leaves the history and the desk
-module _ (f₀ : FrontData) (before : DeskData) (number most : ℕ) (batch : BatchData) (legal : IsLegal f₀)
-    (d : DeskStands f₀ before) (sure : IsSure before) (b : BatchStands f₀ before.stored batch) (to : number ≡ batch.to) (maxcas : most ≡ batch.maxcas) where
-  -- the numbers that were given to the store
-  abbrev given : StoreState
-  given = record { version = 1; high = number; maxcas = most }
-
+module _ (f₀ : FrontData) (before : DeskData) (number : ℕ) (given : StoreState) (batch : BatchData) (legal : IsLegal f₀)
+    (d : DeskStands f₀ before) (sure : IsSure before) (b : BatchStands f₀ before.stored batch) (to : number ≡ batch.to) (under : given ≡ state_for batch) where
   whole_is : all_committed before.keeper.content batch given ≡ whole before.keeper batch
-  whole_is =
-      ap (λ n. all_committed before.keeper.content batch (record { version = 1; high = n; maxcas = most })) to
-      ∙ ap (λ n. all_committed before.keeper.content batch (record { version = 1; high = batch.to; maxcas = n })) maxcas
+  whole_is = ap (λ (s : StoreState). all_committed before.keeper.content batch s) under
 
   pub commit_none : (m : DeskData) → m ≡ record before { keeper = m.keeper } → m.keeper ≡ before.keeper → before.keeper.roomy ≡ false → IsFlushed f₀ f₀ before m batch flushes.NoMemory
   commit_none m after same wanting = (refl, after ∙ ap (λ (k : KeeperData). record before { keeper = k }) same, wanting)

@@ -10,7 +10,7 @@ ghost use Rattle.hold_stage.specs.Touches.{there, is_stripe, is_queue, is_desk};
 ghost use Rattle.hold_stage.specs.Stays.{Stays, KeptBut};
 ghost use Rattle.hold_stage.specs.Grows.{Same, IsNone};
 ghost use Rattle.ep_model.specs.Mutations.{laid_on};
-ghost use Rattle.kv_keeper.specs.Batch.{laid, AreDistinct};
+ghost use Rattle.kv_keeper.specs.Batch.{laid, AreDistinct, empty_batch};
 ghost use Rattle.kv_keeper.specs.declared.data.DeskData.{DeskData};
 ghost use Rattle.kv_keeper.specs.Desk.{IsSure};
 ghost use Rattle.flat_parts.specs.Steps.{page_step};
@@ -18,7 +18,7 @@ ghost use Rattle.ep_drill.specs.Stands.{DeskStands, BatchStands};
 ghost use Rattle.ep_drill.specs.Calls.{AreHome};
 ghost use Rattle.hold_stage.specs.Went.{HasRoom};
 ghost use Rattle.ep_drill.specs.Parts.{Becomes};
-ghost use Rattle.ep_drill.specs.StoreSide.{IsPaged, IsTaken, IsFlushed};
+ghost use Rattle.ep_drill.specs.StoreSide.{state_for, IsPaged, IsTaken, IsFlushed};
 
 use crate::hold::{take_desk, take_queue, take_stripe};
 use crate::part::Part;
@@ -88,6 +88,24 @@ fn fill(queue: &FlatQueue, batch: &mut Batch) -> Result<(), NoMemory>
     Ok(())
 }
 
+// The batch up to the last mutation of a queue, with no rows yet.
+fn batch_of(alloc: Global, queue: &FlatQueue) -> Batch
+    ensures { result ≡ empty_batch queue.now.high queue.now.maxcas }
+{
+    Batch::new(alloc, queue.high(), queue.maxcas())
+}
+
+// The numbers under which a batch is stored.
+fn state_of(batch: &Batch) -> StoreState
+    ensures { result ≡ state_for batch.now }
+{
+    StoreState {
+        version: VERSION,
+        high: batch.to(),
+        maxcas: batch.maxcas(),
+    }
+}
+
 /// Copies what isn't stored yet into a batch: none where all is stored. It has no desk in reach, so that whether memory
 /// is wanting for the copies isn't read off one.
 pub(crate) fn take_batch<S: Stage<Part = Part>>(
@@ -113,7 +131,7 @@ pub(crate) fn take_batch<S: Stage<Part = Part>>(
         stage.give(PartName::Queue, Part::Queue(queue));
         return Ok(None);
     }
-    let mut batch = Batch::new(alloc, queue.high(), queue.maxcas());
+    let mut batch = batch_of(alloc, &queue);
     let filled = fill(&queue, &mut batch);
     stage.give(PartName::Queue, Part::Queue(queue));
     match filled {
@@ -147,11 +165,7 @@ pub(crate) fn commit_batch<S: Stage<Part = Part>, K: Keeper>(
     ensures home { AreHome (S.front stage.old).config (S.tells stage.new) }
 {
     let number = batch.to();
-    let state = StoreState {
-        version: VERSION,
-        high: number,
-        maxcas: batch.maxcas(),
-    };
+    let state = state_of(batch);
     match desk.commit(alloc, batch, &state) {
         Kept::Good(()) => {}
         Kept::Failed => return Flushed::Failed,

@@ -1,4 +1,4 @@
-use Rattle.std.proofs.Common.{rules, sym, subst, List, ◌+◌, take}
+use Rattle.std.proofs.Common.{rules, ◌≡◌, sym, subst, List, [], ◌∷◌, ◌++◌, ◌+◌, take}
 use Rattle.ep_drill.specs.declared.choice.Answer.{Answer}
 use Rattle.ep_drill.specs.Stepped.{Ran}
 use Rattle.ep_drill.proofs.EngineLemmas.{stays_on}
@@ -9,10 +9,11 @@ use Rattle.ep_drill.proofs.engine.run_steps.Goals as goal
 pub loop-choice-preserved : goal.loop-choice-preserved
 loop-choice-preserved g c =
     let l = c.loop-choice in
+    let said : c.push_reserved.new.self.items ≡ l.answers.items ++ c.in-Ok-step.answer ∷ [] = search rules in
     record {
       interleaves = c.step.ensures.interleaves;
       goes_on = goes_on_then c.args.core.now l.core c.step.new.self l.invariant.goes_on c.step.ensures.goes_on;
-      ran = subst (λ (said : List Answer). Ran c.args.core.now c.step.new.self (take (l.choice-index + 1) c.args.steps.now) said) (sym c.push_reserved.ensures.items)
+      ran = subst (λ (said : List Answer). Ran c.args.core.now c.step.new.self (take (l.choice-index + 1) c.args.steps.now) said) (sym said)
           (ran_next c.args.core.now l.core c.step.new.self c.args.steps.now l.answers.items l.choice-index _ c.in-Ok-step.answer c.loop-choice-test.true l.invariant.ran c.in-Ok-step.ensures.stepped c.step.ensures.goes_on c.step.ensures.interleaves);
       count = search rules;
       room = search rules;

@@ -1,4 +1,4 @@
-use Rattle.std.proofs.Common.{Some, subst, ◌∙◌}
+use Rattle.std.proofs.Common.{rules, Some, subst, ◌∙◌}
 use Rattle.ep_model.specs.declared.event.PartName.TheVariants.{Stripe}
 use Rattle.ep_model.specs.declared.data.EventData.TheVariants.{Marked as MarkedData}
 use Rattle.hold_stage.specs.Went.{Went}
@@ -37,9 +37,9 @@ returns-clause-went g c =
 
 pub returns-clause-marked : goal.returns-clause-marked
 returns-clause-marked g c =
-    let t = c.try_take_stripe in (
-      c.noted-number.ensures,
-      mark_known (g.S.Stage.front t.new.stage) (g.S.Stage.front c.note.new.self) (g.S.Stage.holds t.new.stage) (g.S.Stage.number t.new.stage) (g.S.Stage.is_desk t.new.stage) c.args.stripe c.noted-number.result
-          c.note.ensures.noted c.note.ensures.legal (g.S.Stage.front c.give-2.new.self) c.args.desk.now.noted c.give-2.ensures.front c.noted-number.ensures,
-      c.give-2.ensures.losses ∙ c.note.ensures.losses ∙ c.in-Ok.ensures.taken.1,
-    )
+    let t = c.try_take_stripe in
+    let known =
+    mark_known (g.S.Stage.front t.new.stage) (g.S.Stage.front c.note.new.self) (g.S.Stage.holds t.new.stage) (g.S.Stage.number t.new.stage) (g.S.Stage.is_desk t.new.stage) c.args.stripe c.noted-number.result
+    c.note.ensures.noted c.note.ensures.legal (g.S.Stage.front c.give-2.new.self) c.args.desk.now.noted c.give-2.ensures.front c.noted-number.ensures in
+    let same = c.give-2.ensures.losses ∙ c.note.ensures.losses ∙ c.in-Ok.ensures.taken.1 in
+    search rules

@@ -1,4 +1,4 @@
-use Rattle.std.proofs.Common.{◌∙◌}
+use Rattle.std.proofs.Common.{rules, ◌∙◌}
 use Rattle.hold_stage.proofs.OwnLemmas.{own_persisted, persisted_covered}
 use Rattle.ep_drill.proofs.StageLemmas.{flush_may, flushed_part, flushed_queue, commit_none, commit_failed, commit_good}
 use Rattle.ep_drill.proofs.store.commit_batch.Goals as goal
@@ -6,14 +6,16 @@ use Rattle.ep_drill.proofs.store.commit_batch.Goals as goal
 pub returns-in-Failed-clause-flushed : goal.returns-in-Failed-clause-flushed
 returns-in-Failed-clause-flushed g c =
     let r = c.requires in
-    commit_failed (g.S.Stage.front c.args.stage.now) c.args.desk.now c.to-number.result c.maxcas.result c.args.batch.now
-    r.legal r.desk r.sure r.batch c.to-number.ensures c.maxcas.ensures c.commit.new.self c.in-Failed.ensures.after c.in-Failed.ensures.commits
+    let done =
+    commit_failed (g.S.Stage.front c.args.stage.now) c.args.desk.now c.to-number.result c.state_of-state.result c.args.batch.now
+    r.legal r.desk r.sure r.batch c.to-number.ensures c.state_of-state.ensures c.commit.new.self c.in-Failed.ensures.after c.in-Failed.ensures.commits in
+    search rules
 
 pub returns-in-NoMemory-clause-flushed : goal.returns-in-NoMemory-clause-flushed
 returns-in-NoMemory-clause-flushed g c =
     let r = c.requires in
-    commit_none (g.S.Stage.front c.args.stage.now) c.args.desk.now c.to-number.result c.maxcas.result c.args.batch.now
-    r.legal r.desk r.sure r.batch c.to-number.ensures c.maxcas.ensures c.commit.new.self c.in-NoMemory.ensures.after c.in-NoMemory.ensures.commits c.in-NoMemory.ensures.memory
+    commit_none (g.S.Stage.front c.args.stage.now) c.args.desk.now c.to-number.result c.state_of-state.result c.args.batch.now
+    r.legal r.desk r.sure r.batch c.to-number.ensures c.state_of-state.ensures c.commit.new.self c.in-NoMemory.ensures.after c.in-NoMemory.ensures.commits c.in-NoMemory.ensures.memory
 
 pub note-requires-clause-covered : goal.note-requires-clause-covered
 note-requires-clause-covered g c =
@@ -55,8 +57,8 @@ returns-clause-flushed g c =
     let r = c.requires in
     let q = c.take_queue-queue in
     let d = c.take_desk-part in
-    commit_good (g.S.Stage.front c.args.stage.now) c.args.desk.now c.to-number.result c.maxcas.result c.args.batch.now
-    r.legal r.desk r.sure r.batch c.to-number.ensures c.maxcas.ensures
+    commit_good (g.S.Stage.front c.args.stage.now) c.args.desk.now c.to-number.result c.state_of-state.result c.args.batch.now
+    r.legal r.desk r.sure r.batch c.to-number.ensures c.state_of-state.ensures
     (g.S.Stage.front q.new.stage) (g.S.Stage.front d.new.stage) (g.S.Stage.front c.note.new.self) (g.S.Stage.front c.give.new.self) (g.S.Stage.front c.give-2.new.self) c.commit.new.self c.set_noted.new.self
     q.ensures.front d.ensures.front (c.note.ensures.alone (d.ensures.stays.telling ∙ q.ensures.stays.telling ∙ r.telling)) c.give.ensures.front c.give-2.ensures.front
     c.in-Good.ensures.after c.in-Good.ensures.commits c.set_noted.ensures
