@@ -1,6 +1,5 @@
 pub mod ListLemmas
 pub mod ReadLemmas
-pub mod NumbersLemmas
 pub mod AskLemmas
 pub mod StoreLemmas
 pub mod PartLemmas

@@ -37,12 +37,12 @@ use Rattle.flat_parts.specs.Nodes.{node_of, node_at, has_value, is_ejectable, ej
 use Rattle.flat_parts.specs.Steps.{page_step, restored}
 use Rattle.hold_stage.proofs.RisesLemmas.{high_rises, opened_unstored}
 use Rattle.hold_stage.specs.Waits.{IsNoRead, IsFaultWithin, IsAbsent}
-use Rattle.ep_drill.specs.Numbers.{all_numbered}
+use Rattle.hold_stage.specs.Numbers.{all_numbered}
 use Rattle.ep_drill.specs.Stands.{ValueStands, NodeStands, IsGone, OutcomeStands, ticket_of, PlaceStands, StripeStands, QueueStands, HoldsIfTelling, ContentStands, DeskStands, BatchStands}
 use Rattle.hold_stage.proofs.ApartLemmas.{has_failed_later, waiting_later, mutations_step, same_table}
 use Rattle.ep_drill.proofs.ReadLemmas.{IsCalm, places_calm, stripe_calm}
 use Rattle.ep_drill.proofs.AskLemmas.{with_places, ticket_is}
-use Rattle.ep_drill.proofs.NumbersLemmas.{above_alike}
+use Rattle.hold_stage.proofs.NumbersLemmas.{above_alike}
 use Rattle.ep_drill.proofs.SetLemmas.{node_at_put}
 use Rattle.hold_stage.proofs.WaitLemmas.{and_left, and_right, not_true}
 use Rattle.ep_drill.proofs.StoreLemmas.{has_start, tells_both, tells_whole, tells_on, upto_step}

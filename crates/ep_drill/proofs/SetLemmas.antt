@@ -46,7 +46,7 @@ use Rattle.flat_parts.specs.declared.data.Step.{Step}
 use Rattle.flat_parts.specs.declared.data.Step.TheVariants as steps
 use Rattle.flat_parts.specs.Nodes.{node_of, node_at, put_node, released, forgotten}
 use Rattle.flat_parts.specs.Steps.{shown_value, shown_docs, shown_world, stripe_after, queue_after, write_step}
-use Rattle.ep_drill.specs.Numbers.{Numbers, numbered, all_numbered}
+use Rattle.hold_stage.specs.Numbers.{Numbers, numbered, all_numbered}
 use Rattle.ep_drill.specs.Stands.{ValueStands, NodeStands, IsGone, OutcomeStands, ticket_of, PlaceStands, StripeStands, QueueStands}
 use Rattle.hold_stage.proofs.ApartLemmas.{has_failed_later, waiting_later, mutations_step, same_table}
 use Rattle.ep_drill.proofs.AskLemmas.{with_places}

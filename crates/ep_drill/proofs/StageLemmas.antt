@@ -24,8 +24,8 @@ use Rattle.kv_keeper.specs.Desk.{IsSure}
 use Rattle.kv_keeper.specs.Kept.{IsDoubtful, all_committed}
 use Rattle.flat_parts.specs.declared.data.QueueData.{QueueData}
 use Rattle.ep_drill.specs.declared.store.Flushed.TheVariants as flushes
-use Rattle.ep_drill.specs.Numbers.{numbers_of}
-use Rattle.ep_drill.proofs.NumbersLemmas.{laid_alike}
+use Rattle.hold_stage.specs.Numbers.{numbers_of}
+use Rattle.hold_stage.proofs.NumbersLemmas.{laid_alike}
 use Rattle.ep_drill.specs.Stands.{QueueStands, DeskStands, BatchStands}
 use Rattle.ep_drill.specs.StoreSide.{IsTaken, IsFlushed, state_for, whole}
 use Rattle.ep_drill.proofs.StoreLemmas.{batch_taken, has_start}

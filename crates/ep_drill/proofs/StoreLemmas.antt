@@ -39,8 +39,8 @@ use Rattle.hold_stage.proofs.RisesLemmas.{high_rises}
 use Rattle.ep_drill.specs.declared.data.FetchedData.{FetchedData}
 use Rattle.ep_drill.specs.declared.data.FoundData.{FoundData}
 use Rattle.ep_drill.specs.declared.data.FoundData.TheVariants as founds
-use Rattle.ep_drill.specs.Numbers.{numbers_of}
-use Rattle.ep_drill.proofs.NumbersLemmas.{laid_alike}
+use Rattle.hold_stage.specs.Numbers.{numbers_of}
+use Rattle.hold_stage.proofs.NumbersLemmas.{laid_alike}
 use Rattle.ep_drill.specs.Stands.{QueueStands, HoldsAt, HoldsIfTelling, ContentStands, DeskStands, BatchStands, FoundStands, FetchedStands}
 use Rattle.hold_stage.proofs.WaitLemmas.{and_left, and_right, not_true, docs_apart, waiting_asked, waiting_low}
 use Rattle.hold_stage.proofs.HistoryLemmas.{batch_law}

@@ -1,4 +1,3 @@
-pub mod Numbers
 pub mod Stands
 pub mod Untouched
 pub mod Parts

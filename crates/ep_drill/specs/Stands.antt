@@ -29,7 +29,7 @@ use Rattle.kv_keeper.specs.Batch.{laid}
 use Rattle.kv_keeper.specs.declared.data.DeskData.{DeskData}
 use Rattle.kv_keeper.specs.Content.{Content, KeeperData}
 use Rattle.flat_parts.specs.Nodes.{node_at}
-use Rattle.ep_drill.specs.Numbers.{all_numbered, HaveSameNumbers}
+use Rattle.hold_stage.specs.Numbers.{all_numbered, HaveSameNumbers}
 
 -- A resident value is the document's. A value may be away only where the stripe knows that it is stored, and where the
 -- document isn't deleted.

@@ -17,7 +17,7 @@ use Rattle.ep_drill.specs.declared.store.Paged.{Paged}
 use Rattle.ep_drill.specs.declared.store.Flushed.{Flushed}
 use Rattle.ep_drill.specs.declared.store.Flushed.TheVariants as flushes
 use Rattle.flat_parts.specs.Steps.{page_step}
-use Rattle.ep_drill.specs.Numbers.{HaveSameNumbers}
+use Rattle.hold_stage.specs.Numbers.{HaveSameNumbers}
 use Rattle.ep_drill.specs.Stands.{DeskStands, BatchStands}
 
 -- the pager's answer, where the stripe is told

@@ -21,7 +21,7 @@ use Rattle.flat_parts.specs.declared.data.Outcome.TheVariants as outcomes
 use Rattle.flat_parts.specs.declared.data.PlaceData.{PlaceData}
 use Rattle.flat_parts.specs.declared.data.StripeData.{StripeData}
 use Rattle.flat_parts.specs.declared.data.QueueData.{QueueData}
-use Rattle.ep_drill.specs.Numbers.{all_numbered}
+use Rattle.hold_stage.specs.Numbers.{all_numbered}
 use Rattle.ep_drill.specs.Stands.{ValueStands, IsGone, OutcomeStands, ticket_of, PlaceStands, StripeStands, QueueStands}
 
 outcome_keeps : (f : FrontData) (stripe number : ℕ) (key : List ℕ) (outcome : Outcome) (event : EventData) → touches f event (Stripe stripe) ≡ false → get (world_of (with_event f event)).docs key ≡ get (world_of f).docs key

@@ -18,3 +18,4 @@ pub mod ApartLemmas
 pub mod HistoryLemmas
 pub mod CheckpointLemmas
 pub mod SlotLemmas
+pub mod NumbersLemmas

@@ -7,3 +7,4 @@ pub mod Laws
 pub mod Waits
 pub mod Histories
 pub mod Priors
+pub mod Numbers

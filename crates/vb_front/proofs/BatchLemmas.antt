@@ -21,7 +21,8 @@ use Rattle.ckpt_manager.specs.Queue.{held, items_above, least_cursor}
 use Rattle.ckpt_manager.specs.Sound.{RiseAbove, IsSoundQueue}
 use Rattle.ckpt_manager.proofs.RoomLemmas.{least-le}
 use Rattle.vb_front.specs.Stands.{IsItem, AreItems, QueueStands}
-use Rattle.vb_front.specs.Batches.{item_of, read_behind, QueuesHoldBatches, Numbers, numbers_of, QueuesHoldNumbers}
+use Rattle.hold_stage.specs.Numbers.{Numbers, numbers_of}
+use Rattle.vb_front.specs.Batches.{item_of, read_behind, QueuesHoldBatches, QueuesHoldNumbers}
 use Rattle.vb_front.proofs.KeptLemmas.{above_append, above_passed}
 
 -- each has a greater number than the one before

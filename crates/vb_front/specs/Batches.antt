@@ -2,10 +2,11 @@
 use Rattle.std.specs.Prelude.{◌≡◌, ℕ, ◌≤◌, true, List, map}
 use Rattle.std.specs.Option.{option_map}
 use Rattle.ep_model.specs.declared.data.FrontData.{FrontData}
-use Rattle.ep_model.specs.World.{Doc, Item, doc_from}
+use Rattle.ep_model.specs.World.{Item, doc_from}
 use Rattle.ep_model.specs.Mutations.{above}
 use Rattle.ep_model.specs.Front.{world_of}
 use Rattle.hold_stage.specs.Histories.{puts_of, last_of, IsBatchAbove}
+use Rattle.hold_stage.specs.Numbers.{numbers_of}
 use Rattle.ckpt_items.specs.declared.data.ItemData.{ItemData}
 use Rattle.ckpt_manager.specs.declared.data.QueueData.{QueueData}
 use Rattle.ckpt_manager.specs.Queue.{held, items_above}
@@ -25,14 +26,6 @@ read_behind q number = map item_of (items_above number (held q))
 abbrev pub QueuesHoldBatches : Type 0
 QueuesHoldBatches = (f : FrontData) (q : QueueData) (number : ℕ) → (world_of f).told ≡ true → IsSoundQueue q → QueueStands f q
     → (world_of f).persisted ≤ number → IsBatchAbove f number (read_behind q number)
-
--- the numbers of a document
-pub record Numbers : Type 0 where
-  pub seqno : ℕ
-  pub cas : ℕ
-
-abbrev pub numbers_of : Doc → Numbers
-numbers_of doc = record { seqno = doc.seqno; cas = doc.cas }
 
 -- Where no documents are known the numbers of each key's last mutation are read.
 abbrev pub QueuesHoldNumbers : Type 0

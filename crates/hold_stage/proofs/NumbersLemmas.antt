@@ -7,7 +7,7 @@ use Rattle.std.specs.Ordering.{nat_cmp, eq_by_cmp}
 use Rattle.std.specs.Cmp.Lexicographic.{slice_cmp, nat_list_cmp_total}
 use Rattle.ep_model.specs.World.{Doc, Docs, Item}
 use Rattle.ep_model.specs.Mutations.{above, laid_on}
-use Rattle.ep_drill.specs.Numbers.{Numbers, numbers_of, numbered, all_numbered, HaveSameNumbers}
+use Rattle.hold_stage.specs.Numbers.{Numbers, numbers_of, numbered, all_numbered, HaveSameNumbers}
 
 -- those above a number
 abbrev numbers_above : ℕ → List (List ℕ × Numbers) → List (List ℕ × Numbers)
