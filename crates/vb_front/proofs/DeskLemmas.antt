@@ -1,6 +1,8 @@
 -- Desks, batches and calls that wait, while others note events; and parts that have nothing.
 use Rattle.std.proofs.Common.{◌≡◌, inl, inr, ℕ, ◌<◌, ◌≤◌, false, [], ◌∷◌, ◌++◌, sym, ap, subst, ◌∙◌, arith}
 use Rattle.std.specs.Prelude.{Option, Some, None, IfSome}
+use Rattle.std.specs.Option.{option_map}
+use Rattle.std.specs.FinMap.{get}
 use Rattle.ep_model.specs.declared.data.EventData.{EventData}
 use Rattle.ep_model.specs.declared.data.EventData.TheVariants.{Called, Refused, Expired, Persisted, Marked, Asked, ReadFailed, Opened}
 use Rattle.ep_model.specs.declared.data.FrontData.{FrontData}
@@ -8,6 +10,7 @@ use Rattle.ep_model.specs.World.{World}
 use Rattle.ep_model.specs.Front.{begun, world_of, with_event}
 use Rattle.ep_model.specs.Legal.{IsSilent, IsLegal}
 use Rattle.hold_stage.specs.Histories.{IsReached, world_at}
+use Rattle.hold_stage.specs.Numbers.{numbers_of}
 use Rattle.hold_stage.specs.Touches.{is_of, is_desks}
 use Rattle.hold_stage.proofs.LaterLemmas.{same_told, world_step, all_append}
 use Rattle.hold_stage.proofs.LegalLemmas.{has_more}
@@ -98,6 +101,9 @@ module _ (f : FrontData) (event : EventData) (desk : DeskData) (legal : IsLegal 
         low = b.low;
         top = let a = b.top in let r = high_rises f event in omega arith;
         maxcas = b.maxcas ∙ sym (ap (λ (w : World). w.maxcas) high);
+        numbers = λ key.
+            ap (λ (w : World). option_map numbers_of (get (laid batch.rows w.docs) key)) low ∙ b.numbers key
+            ∙ sym (ap (λ (w : World). option_map numbers_of (get w.docs key)) high);
         shown = λ told.
             ap (λ (w : World). laid batch.rows w.docs) low ∙ b.shown (sym (same_told f event) ∙ told) ∙ sym (ap (λ (w : World). w.docs) high);
       }

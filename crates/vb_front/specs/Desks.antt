@@ -12,6 +12,7 @@ use Rattle.kv_keeper.specs.declared.data.DeskData.{DeskData}
 use Rattle.kv_keeper.specs.Batch.{laid}
 use Rattle.kv_keeper.specs.Content.{Content, KeeperData}
 use Rattle.kv_keeper.specs.Desk.{IsSure}
+use Rattle.hold_stage.specs.Numbers.{HaveSameNumbers}
 
 -- a store holds what the history had put at one of its numbers
 pub record HoldsAt (f : FrontData) (content : Content) (number : ℕ) : Type 0 where
@@ -64,7 +65,8 @@ pub record DeskStands (f : FrontData) (desk : DeskData) : Type 0 where
 -- `above`: it brings more than is told to be stored;
 -- `low`, `top`: its number is none below what is stored, and none above what there is;
 -- `maxcas`: its greatest CAS is that of its number;
--- `shown`: where documents are known, its rows laid over what is stored give what there was at its number.
+-- `numbers`: its rows laid over what was stored give the numbers and CAS of each key at its number;
+-- `shown`: where documents are known, they give all that there was at its number.
 pub record BatchStands (f : FrontData) (desk : DeskData) (batch : BatchData) : Type 0 where
   pub sure : IsSure desk
   pub opened : (world_of f).opened ≡ true
@@ -72,4 +74,5 @@ pub record BatchStands (f : FrontData) (desk : DeskData) (batch : BatchData) : T
   pub low : desk.stored ≤ batch.to
   pub top : batch.to ≤ (world_of f).high
   pub maxcas : batch.maxcas ≡ (world_at f batch.to).maxcas
+  pub numbers : HaveSameNumbers (laid batch.rows (world_at f desk.stored).docs) (world_at f batch.to).docs
   pub shown : (world_of f).told ≡ true → laid batch.rows (world_at f desk.stored).docs ≡ (world_at f batch.to).docs
