@@ -37,6 +37,12 @@ const READ: StepChoice = StepChoice::Read { vb: 0, stripe: 0 };
 
 const MERGE: StepChoice = StepChoice::Merge { vb: 0, stripe: 0 };
 
+/// The first forty reads of a store.
+const FORTY_READS: [u64; 40] = [
+    0, 1, 2, 3, 4, 5, 6, 7, 8, 9, 10, 11, 12, 13, 14, 15, 16, 17, 18, 19, 20, 21, 22, 23, 24, 25,
+    26, 27, 28, 29, 30, 31, 32, 33, 34, 35, 36, 37, 38, 39,
+];
+
 /// A caller's next call is tried.
 fn front(caller: u16) -> StepChoice {
     StepChoice::Front { caller, now: NOW }
@@ -69,6 +75,26 @@ fn load_get(
         × (core.new.config ≡ core.old.config) }
 {
     core.load(alloc, caller, 0, &Call::Get { key })
+}
+
+/// A caller is to get a key so many times.
+fn load_gets(
+    alloc: Global,
+    core: &mut Core<MemoryKeeper>,
+    caller: u16,
+    key: &[u8],
+    count: u16,
+) -> Result<(), NoMemory>
+    requires key { IsKey key.now }
+    requires caller { caller < length core.old.callers }
+    requires vb { 0 < core.old.config.vbuckets }
+    ensures same { (length core.new.callers ≡ length core.old.callers)
+        × (core.new.config ≡ core.old.config) }
+{
+    for _get in 0..count {
+        load_get(alloc, core, caller, key)?;
+    }
+    Ok(())
 }
 
 /// A caller is to set a key.
@@ -241,19 +267,36 @@ fn failed_read(number: u64) -> [Seen; 4] {
     ]
 }
 
-/// The answers behind four failed reads, of which no step tells anything: another key is set, stored, ejected, and read.
+/// The answers of Sets of three keys that are stored, and whose values are ejected.
+fn three_stored() -> [Seen; 7] {
+    [
+        Seen::Status(0x00),
+        Seen::Status(0x00),
+        Seen::Status(0x00),
+        Seen::Other(Answer::Took(3)),
+        Seen::Other(Answer::Flushed(Flushed::Stored(3))),
+        Seen::Other(Answer::Marked(Marking::Raised(3))),
+        Seen::Other(Answer::Paged(Paged {
+            used: 3,
+            ejected: 3,
+        })),
+    ]
+}
+
+/// The answers behind forty failed reads, of which no step tells anything: another key is set, stored, ejected, and
+/// read.
 fn goes_on() -> [Seen; 9] {
     let ticket = Ticket {
         stripe: 0,
-        number: 5,
+        number: 41,
     };
     [
         Seen::Status(0x00),
         Seen::Other(Answer::Took(1)),
-        Seen::Other(Answer::Flushed(Flushed::Stored(2))),
-        Seen::Other(Answer::Marked(Marking::Raised(2))),
+        Seen::Other(Answer::Flushed(Flushed::Stored(4))),
+        Seen::Other(Answer::Marked(Marking::Raised(4))),
         Seen::Other(Answer::Paged(Paged {
-            used: 2,
+            used: 4,
             ejected: 1,
         })),
         Seen::Other(Answer::Tried(Tried::Fetch(ticket))),
@@ -264,20 +307,20 @@ fn goes_on() -> [Seen; 9] {
 }
 
 #[test]
-fn a_core_goes_on_behind_four_failed_reads(rt: HostRuntime) -> Result<(), Fail> {
+fn a_core_goes_on_behind_forty_failed_reads(rt: HostRuntime) -> Result<(), Fail> {
     let alloc = rt.alloc();
-    let mut core = core_of(alloc, &[0, 1, 2, 3])?;
-    load_set(alloc, &mut core, 0, b"k", &LONG)?;
-    load_get(alloc, &mut core, 0, b"k")?;
-    load_get(alloc, &mut core, 0, b"k")?;
-    load_get(alloc, &mut core, 0, b"k")?;
-    load_get(alloc, &mut core, 0, b"k")?;
+    let mut core = core_of(alloc, &FORTY_READS)?;
+    load_set(alloc, &mut core, 0, b"a", &LONG)?;
+    load_set(alloc, &mut core, 0, b"b", &LONG)?;
+    load_set(alloc, &mut core, 0, b"c", &LONG)?;
+    load_gets(alloc, &mut core, 0, b"a", 20)?;
+    load_gets(alloc, &mut core, 0, b"b", 10)?;
+    load_gets(alloc, &mut core, 0, b"c", 10)?;
     load_set(alloc, &mut core, 1, b"m", &LONG)?;
     load_get(alloc, &mut core, 1, b"m")?;
-    let steps = [front(0), TAKE, COMMIT, MARK, PAGE];
-    let stored = stored_and_read();
-    expect(&rt, alloc, &mut core, &steps, &stored[..5])?;
-    for number in 1..5u64 {
+    let steps = [front(0), front(0), front(0), TAKE, COMMIT, MARK, PAGE];
+    expect(&rt, alloc, &mut core, &steps, &three_stored())?;
+    for number in 1..41u64 {
         let steps = [front(0), READ, MERGE, front(0)];
         expect(&rt, alloc, &mut core, &steps, &failed_read(number))?;
     }
