@@ -9,7 +9,13 @@ use Rattle.ep_model.specs.declared.config.Eviction.TheVariants.{Value, Full}
 use Rattle.ep_model.specs.declared.event.Cause.TheVariants as causes
 use Rattle.ep_model.specs.declared.event.Ticket.{Ticket}
 use Rattle.ep_model.specs.declared.data.CallData.{CallData}
+use Rattle.ep_model.specs.declared.data.EventData.TheVariants as events
+use Rattle.ep_model.specs.declared.data.FrontData.{FrontData}
 use Rattle.ep_model.specs.Refusals.{state_refusal}
+use Rattle.ep_model.specs.Calls.{key_of}
+use Rattle.ep_model.specs.Front.{world_of}
+use Rattle.ep_model.specs.Quota.{is_short}
+use Rattle.ep_model.specs.Legal.{IsQuotaCause, May}
 use Rattle.hash_stripe.specs.Nodes.{Slot, node_at, others_pinned}
 use Rattle.hash_stripe.specs.Stripes.{StripeData}
 use Rattle.fetch_book.specs.declared.place.Outcome.{Outcome}
@@ -21,11 +27,13 @@ use Rattle.vb_front.specs.declared.step.Step.{Step}
 use Rattle.vb_front.specs.declared.step.Step.TheVariants as steps
 use Rattle.vb_front.specs.declared.wait.Waited.{Waited}
 use Rattle.vb_front.specs.declared.wait.Waited.TheVariants as waits
+use Rattle.vb_front.specs.Stands.{StripeStands, QueueStands}
+use Rattle.vb_front.specs.Priors.{event_of, IsNext}
 use Rattle.vb_front.specs.Waits.{Memory, Known, Away, value_memory, slot_memory, memory_of, prior_outcome, waited_at, waited_for, waited, release, ask_step}
 use Rattle.vb_front.specs.Reads.{HasPlace, IsUnserved, IsAwayFrom, NeedsAway, IsDone, ComesTo, read_refused, read_waits, read_memory, read_active, read_step}
 use Rattle.vb_front.specs.Writes.{write_crowded, write_waits, write_step}
 use Rattle.vb_front.specs.WriteSteps.{LacksDoc, IsServed, LacksRoom, IsWithoutRoomFor, Waits, Asks, WriteComesTo}
-use Rattle.vb_front.specs.Ways.{way_of, ReadStepsAreApart, ReadFollowsItsCondition, WaitingReadsAskNothing, WriteStepsAreApart, WriteFollowsItsCondition, WaitingWritesAskNothing, RoomLacksForOne}
+use Rattle.vb_front.specs.Ways.{way_of, ReadStepsAreApart, ReadFollowsItsCondition, WaitingReadsAskNothing, WriteStepsAreApart, WriteFollowsItsCondition, WaitingWritesAskNothing, RoomLacksForOne, QuotaIsWantOfRoom}
 use Rattle.vb_front.proofs.ReadLemmas.{active_is}
 use Rattle.vb_front.proofs.ExactLemmas.{away_from}
 use Rattle.vb_front.proofs.WriteExactLemmas.{write_is_exact}
@@ -260,3 +268,28 @@ waiting_writes_ask_nothing part call key prior one other book left w a = waiting
 
 pub room_lacks_for_one : RoomLacksForOne
 room_lacks_for_one part q call key now prior old room = crowded_serves part q call key now prior old (room.served old.lacks)
+
+-- what is refused for want of room has none in the history
+quota_short : (f : FrontData) (caller : ℕ) (call : CallData) (key : List ℕ) (now : ℕ) (after : FrontData → Type 0) → key_of call ≡ Some key → (world_of f).told ≡ true
+    → IsNext f (Some (events.Refused caller call now causes.Quota)) after → is_short f key call now ≡ true
+unfolding May
+quota_short f caller call key now after keyed told next =
+    let cause : IsQuotaCause f call now = next.0 in
+    let same : cause.key ≡ key = (let e : Some cause.key ≡ Some key = sym cause.keyed ∙ keyed in cc) in
+    subst (λ (k : List ℕ). is_short f k call now ≡ true) same (cause.short told)
+
+pub quota_is_want_of_room : QuotaIsWantOfRoom
+quota_is_want_of_room part new q after call key now prior w exact fits legal f stripe caller is_legal s u priors told serving keyed nothing = (
+  λ is. quota_short f caller call key now (λ g. StripeStands g stripe new × QueueStands g after) keyed told
+      (subst (λ (t : Step). IsNext f (event_of caller call now prior t w.value) (λ g. StripeStands g stripe new × QueueStands g after)) is (legal f stripe caller is_legal s u priors)),
+  λ short. at short w.step refl exact.comes,
+)
+  where
+    at : is_short f key call now ≡ true → (step : Step) → w.step ≡ step → WriteComesTo part q call key now prior step w.book → w.step ≡ steps.Refused causes.Quota
+    at short (steps.Done reply) is c = absurd (let e = fits f stripe caller reply is_legal s u priors told serving is in cc)
+    at short (steps.Refused causes.Warming) is c = absurd (let e = s.table.opened in let o = serving.opened in cc)
+    at short (steps.Refused causes.Quota) is c = is
+    at short (steps.Refused (causes.Store ticket)) is c = absurd (nothing c.lacks)
+    at short (steps.Refused (causes.Memory ticket)) is c = absurd (nothing c.lacks)
+    at short (steps.Fetch ticket) is c = elim c as (λ _. w.step ≡ steps.Refused causes.Quota) [ inl on ↦ absurd (nothing on.lacks) | inr anew ↦ absurd (nothing anew.lacks) ]
+    at short steps.FetchFull is c = absurd (nothing c.lacks)

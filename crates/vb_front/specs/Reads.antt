@@ -174,7 +174,8 @@ pub record ReadIsExact (old : StripePart) (key : List ℕ) (prior : Option Ticke
   pub comes : ComesTo old key prior r.step r.part.book
   pub freed : IsFreed old prior r.step r.part.book
 
--- Where documents are known, a Get that is answered had room. So one is refused for want of room exactly where there is none.
+-- Where documents are known, a Get that is answered had room. So where there is none it isn't answered, and it is refused for
+-- want of room only there, as `ReadIsLegal` says.
 abbrev pub AnsweredGetHasRoom : StripePart → List ℕ → ℕ → Option Ticket → Read → Type 0
 AnsweredGetHasRoom old key now prior r =
     (f : FrontData) (stripe caller : ℕ) (reply : Reply) → IsLegal f → StripeStands f stripe old → PriorsStand f caller (Get key) prior

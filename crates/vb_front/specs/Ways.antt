@@ -1,16 +1,23 @@
 -- That no two of the conditions meet under which a call on held parts comes to a step.
-use Rattle.std.specs.Prelude.{◌≡◌, ℕ, List, Option, Some, None}
+use Rattle.std.specs.Prelude.{◌≡◌, ℕ, true, List, Option, Some, None}
+use Rattle.ep_model.specs.declared.event.Cause.TheVariants as causes
 use Rattle.ep_model.specs.declared.event.Ticket.{Ticket}
 use Rattle.ep_model.specs.declared.data.CallData.{CallData}
-use Rattle.ep_model.specs.Calls.{written_key}
+use Rattle.ep_model.specs.declared.data.FrontData.{FrontData}
+use Rattle.ep_model.specs.Calls.{key_of, written_key}
+use Rattle.ep_model.specs.Front.{world_of}
+use Rattle.ep_model.specs.Quota.{is_short}
+use Rattle.ep_model.specs.Legal.{IsServing, IsLegal}
 use Rattle.fetch_book.specs.Books.{BookData}
 use Rattle.ckpt_manager.specs.declared.data.QueueData.{QueueData}
 use Rattle.vb_front.specs.declared.part.StripePart.{StripePart}
 use Rattle.vb_front.specs.declared.step.Step.{Step}
 use Rattle.vb_front.specs.declared.step.Step.TheVariants as steps
+use Rattle.vb_front.specs.Stands.{StripeStands, QueueStands}
+use Rattle.vb_front.specs.Priors.{PriorsStand}
 use Rattle.vb_front.specs.Reads.{read_step, ComesTo, WaitsOn, AsksAnew}
-use Rattle.vb_front.specs.Writes.{write_step}
-use Rattle.vb_front.specs.WriteSteps.{WriteComesTo, LacksRoom, IsWithoutRoomFor, Waits, Asks}
+use Rattle.vb_front.specs.Writes.{Write, write_step, WriteIsLegal, AnsweredHasRoom}
+use Rattle.vb_front.specs.WriteSteps.{LacksDoc, WriteComesTo, WriteIsExact, LacksRoom, IsWithoutRoomFor, Waits, Asks}
 
 -- which step it is, with its cause and its ticket, and none where it is answered, whatever the reply
 abbrev pub way_of : Step → Option Step
@@ -53,3 +60,14 @@ WaitingWritesAskNothing = (part : StripePart) (call : CallData) (key : List ℕ)
 abbrev pub RoomLacksForOne : Type 0
 RoomLacksForOne = (part : StripePart) (q : QueueData) (call : CallData) (key : List ℕ) (now : ℕ) (prior : Option Ticket)
     → IsWithoutRoomFor part q call key prior → LacksRoom part q call key now prior → ⊥
+
+-- Of a call that lacks nothing, want of room comes exactly where the history has none, where documents are known. That is so of
+-- whatever has the clauses of `write`. A call that lacks what it needs comes to Quota only there, and isn't answered there.
+abbrev pub QuotaIsWantOfRoom : Type 0
+QuotaIsWantOfRoom = (part new : StripePart) (q after : QueueData) (call : CallData) (key : List ℕ) (now : ℕ) (prior : Option Ticket)
+    → (w : Write) → WriteIsExact part q call key now prior w → AnsweredHasRoom part q call key now prior w
+    → WriteIsLegal part q call key now prior w new after → (f : FrontData) (stripe caller : ℕ) → IsLegal f
+    → StripeStands f stripe part → QueueStands f q → PriorsStand f caller call prior → (world_of f).told ≡ true
+    → IsServing (world_of f) → key_of call ≡ Some key → (LacksDoc part call key → ⊥)
+    → (w.step ≡ steps.Refused causes.Quota → is_short f key call now ≡ true)
+        × (is_short f key call now ≡ true → w.step ≡ steps.Refused causes.Quota)

@@ -4,7 +4,7 @@ ghost use Rattle.vb_front.specs.Laws.{EmptyStripesStand, EmptyQueuesStand, Desks
 ghost use Rattle.vb_front.specs.Laws.{BatchesStandAbove, DesksStore, DesksFail};
 ghost use Rattle.vb_front.specs.Ways.{ReadStepsAreApart, ReadFollowsItsCondition, WaitingReadsAskNothing};
 ghost use Rattle.vb_front.specs.Ways.{WriteStepsAreApart, WriteFollowsItsCondition, WaitingWritesAskNothing};
-ghost use Rattle.vb_front.specs.Ways.{RoomLacksForOne};
+ghost use Rattle.vb_front.specs.Ways.{RoomLacksForOne, QuotaIsWantOfRoom};
 
 /// Parts that have nothing stand for a history in which nothing happened, before a start is put and behind any start.
 pub fn empty_parts_stand()
@@ -33,10 +33,12 @@ pub fn reads_come_to_one_step()
     ensures waits { WaitingReadsAskNothing }
 {}
 
-/// Nor do two meet of a call that may put a document, and it lacks room for one reason.
+/// Nor do two meet of a call that may put a document, and it lacks room for one reason. Where it lacks nothing else, want of
+/// room comes exactly where the history has none.
 pub fn writes_come_to_one_step()
     ensures apart { WriteStepsAreApart }
     ensures follows { WriteFollowsItsCondition }
     ensures waits { WaitingWritesAskNothing }
     ensures room { RoomLacksForOne }
+    ensures quota { QuotaIsWantOfRoom }
 {}
