@@ -16,14 +16,14 @@ use Rattle.ep_model.specs.Calls.{key_of}
 use Rattle.ep_model.specs.Front.{with_event, with_events, with_start}
 use Rattle.ep_model.specs.Stripes.{stripe_of}
 use Rattle.ep_model.specs.Legal.{May, IsLegal}
-use Rattle.hold_stage.specs.Touches.{touches_call, touches}
-use Rattle.hold_stage.specs.Grows.{Among, Covered, Quiet, Grown, Noted}
+use Rattle.hold_stage.specs.Touches.{same_part, touches_call, touches}
+use Rattle.hold_stage.specs.Grows.{Same, Among, and_this, Covered, Quiet, Grown, Noted}
 use Rattle.hold_stage.specs.Went.{Went}
 use Rattle.hold_stage.proofs.CallerLemmas.{same_is}
 use Rattle.hold_stage.proofs.GrowsLemmas.{nothing_more, grown_nothing, grown_then, keeps_along}
 use Rattle.hold_stage.proofs.LaterLemmas.{more_events}
 use Rattle.hold_stage.proofs.OwnLemmas.{holds_stripe}
-use Rattle.hold_stage.proofs.WentLemmas.{went_to, went_behind, went_noted, grown_went, went_may}
+use Rattle.hold_stage.proofs.WentLemmas.{went_to, went_fewer, went_behind, went_noted, grown_went, went_may}
 use Rattle.ckpt_manager.specs.declared.data.QueueData.{QueueData}
 use Rattle.vb_front.specs.declared.part.StripePart.{StripePart}
 use Rattle.vb_front.specs.declared.part.Part.TheVariants as parts
@@ -32,11 +32,11 @@ use Rattle.vb_front.specs.Parts.{part_stands, part_keeps}
 use Rattle.vb_front.specs.Stands.{StripeStands, QueueStands}
 use Rattle.vb_front.specs.Priors.{key_in, event_of, IsNext}
 use Rattle.hold_stage.specs.Priors.{PriorsStand, PriorStands}
-use Rattle.vb_front.specs.Reads.{Read, ReadIsLegal}
+use Rattle.vb_front.specs.Reads.{Read, ReadIsLegal, read_step, ReadIsExact, AnsweredGetHasRoom}
 use Rattle.vb_front.specs.Controls.{Control, ControlIsLegal}
 use Rattle.vb_front.specs.Writes.{Write, write_step, WriteIsLegal, AnsweredHasRoom}
 use Rattle.vb_front.specs.WriteSteps.{WriteIsExact}
-use Rattle.vb_front.specs.Tries.{IsExactly}
+use Rattle.vb_front.specs.Tries.{IsExactlyRead, IsExactly}
 use Rattle.vb_front.proofs.DeskLemmas.{priors_stand_on}
 
 -- a call on a key touches the key's stripe
@@ -122,6 +122,21 @@ went_given E f g h k held holds caller number desk has grown among same_caller s
     (subst (λ (b : Bool). Went g h holds caller b (E caller)) same_desk
     (subst (λ (m : ℕ). Went g h holds m has (E m)) same_caller w)))
 
+-- what is noted behind a part as it was taken, while that was held
+pub went_after : (E : ℕ → Option EventData) (f g k : FrontData) (held holds : PartName → Bool) (caller number : ℕ) (desk has : Bool) → Among held holds → number ≡ caller → has ≡ desk
+    → Went f g holds number has (E number) → k ≡ g → Went f k held caller desk (E caller)
+went_after E f g k held holds caller number desk has among same_caller same_desk w last =
+    went_to f g k held caller desk (E caller) last
+    (went_fewer f g holds held caller desk (E caller) among
+    (subst (λ (b : Bool). Went f g holds caller b (E caller)) same_desk
+    (subst (λ (m : ℕ). Went f g holds m has (E m)) same_caller w)))
+
+-- two parts are held that were taken one after the other
+pub held_twice : (p q : PartName) (a b c : PartName → Bool) → Same b (and_this p a) → Same c (and_this q b) → Among (and_this q (and_this p a)) c
+held_twice p q a b c first second part has =
+    let is : c part ≡ and_this q (and_this p a) part = second part ∙ ap (λ t. same_part part q || t) (first part) in
+    is ∙ has
+
 -- a Get on a stripe that was taken
 module _ (f : FrontData) (holds : PartName → Bool) (caller : ℕ) (desk : Bool) (stripe : ℕ) (call : CallData) (key : List ℕ) (now : ℕ) (prior : Option Ticket) (old new : StripePart) (step : Step) (value : List ℕ) (r : Read)
     (is : call ≡ calls.Get key) (has : holds (Stripe stripe) ≡ true) (stands : StripeStands f stripe old) (priors : PriorsStand f caller call prior) (law : ReadIsLegal old key now prior r)
@@ -183,7 +198,12 @@ module _ (f : FrontData) (holds : PartName → Bool) (caller : ℕ) (desk : Bool
   pub wrote_stands : (g : FrontData) → Went f g holds caller desk (event_of caller call now prior step value) → StripeStands g stripe new × QueueStands g after
   wrote_stands g went = went_next f g holds caller desk (event_of caller call now prior step value) (λ h. StripeStands h stripe new × QueueStands h after) wrote_next went
 
--- what `write` says of its step
+-- what `read` and `write` say of their step
+pub is_exactly_read : (part : StripePart) (prior : Option Ticket) (key : List ℕ) (now : ℕ) → ReadIsExact part key prior (read_step part prior key now)
+    → AnsweredGetHasRoom part key now prior (read_step part prior key now) → IsExactlyRead part prior key now
+unfolding IsExactlyRead
+is_exactly_read part prior key now exact fits = (exact, fits)
+
 pub is_exactly : (part : StripePart) (queue : QueueData) (prior : Option Ticket) (call : CallData) (now : ℕ)
     → WriteIsExact part queue call (key_in call) now prior (write_step part queue prior call (key_in call) now)
     → AnsweredHasRoom part queue call (key_in call) now prior (write_step part queue prior call (key_in call) now)

@@ -1,5 +1,6 @@
 -- What a call at a stage came to, what is noted of it, and what that leaves.
 use Rattle.std.specs.Prelude.{◌≡◌, ℕ, ◌+◌, ◌≤◌, Bool, true, false, List, ◌∷◌, ◌++◌, [], length, Option, Some, None, Result, Ok, Err, IsSome, IfOk, IfErr, MatchResult}
+use Rattle.std.specs.Borrow.{GName}
 use Rattle.std.specs.Option.{option_map}
 use Rattle.ep_model.specs.declared.config.Config.{Config}
 use Rattle.ep_model.specs.declared.event.Busy.{Busy}
@@ -18,7 +19,8 @@ use Rattle.ep_model.specs.Answer.{bare_reply}
 use Rattle.ep_model.specs.Statuses.{status_of}
 use Rattle.ep_model.specs.Stripes.{stripe_of}
 use Rattle.hold_stage.specs.Touches.{there, touches_call}
-use Rattle.hold_stage.specs.Grows.{Among, Grown}
+use Rattle.hold_stage.specs.Grows.{Among, and_this, Grown}
+use Rattle.hold_stage.specs.Stays.{Stays}
 use Rattle.hold_stage.specs.Went.{with_noted, Went, LeavesRoom}
 use Rattle.hold_stage.specs.Stays.{KeptBut}
 use Rattle.ep_edge.specs.declared.gate.Point.{Point}
@@ -35,7 +37,7 @@ use Rattle.vb_front.specs.declared.at_stage.Tried.{Tried}
 use Rattle.vb_front.specs.declared.at_stage.Tried.TheVariants as tries
 use Rattle.vb_front.specs.Stands.{StripeStands, QueueStands}
 use Rattle.vb_front.specs.Priors.{key_in, event_of}
-use Rattle.vb_front.specs.Reads.{read_step, ReadIsExact}
+use Rattle.vb_front.specs.Reads.{read_step, ReadIsExact, AnsweredGetHasRoom}
 use Rattle.vb_front.specs.Controls.{control_step}
 use Rattle.vb_front.specs.Writes.{write_step, Leaves, AnsweredHasRoom}
 use Rattle.vb_front.specs.WriteSteps.{WriteIsExact}
@@ -65,24 +67,32 @@ abbrev pub passed_by : ℕ → Result Step Busy → Option (List Point) → Opti
 passed_by stripe (Ok step) passed = with_point (InStripe stripe) passed
 passed_by stripe (Err busy) passed = passed
 
--- A Get came to what it comes to on the stripe as it was taken, which stood for all that was noted by then.
-pub record Gets (f : FrontData) (held : PartName → Bool) (caller : ℕ) (desk : Bool) (stripe : ℕ) (prior : Option Ticket) (key : List ℕ) (now : ℕ) (value : List ℕ) (step : Step) : Type 0 where
+-- When a Get comes to which step on this part, and that where documents are known it had room if it was answered.
+unfoldable pub IsExactlyRead : StripePart → Option Ticket → List ℕ → ℕ → Type 0
+IsExactlyRead part prior key now =
+    ReadIsExact part key prior (read_step part prior key now) × AnsweredGetHasRoom part key now prior (read_step part prior key now)
+
+-- A Get came to what it comes to on the stripe as it was taken, which stood for all that was noted by then. From there, while it
+-- held that, the history went on to the front that it leaves.
+pub record Gets (f g : FrontData) (held : PartName → Bool) (caller : ℕ) (desk : Bool) (stripe : ℕ) (prior : Option Ticket) (call : CallData) (now : ℕ) (value : List ℕ) (step : Step) : Type 0 where
   pub at : FrontData
   pub grown : Grown f at held caller desk
   pub legal : IsLegal at
   pub part : StripePart
   pub stands : StripeStands at stripe part
-  pub step_is : step ≡ (read_step part prior key now).step
-  pub value_is : value ≡ (read_step part prior key now).value
-  pub exact : ReadIsExact part key prior (read_step part prior key now)
+  pub step_is : step ≡ (read_step part prior (key_in call) now).step
+  pub value_is : value ≡ (read_step part prior (key_in call) now).value
+  pub exact : IsExactlyRead part prior (key_in call) now
+  pub behind : Went at g (and_this (names.Stripe stripe) held) caller desk (event_of caller call now prior step value)
 
--- where it is known what the stripe was, that is what it comes to and leaves on this one
-pub record GetsFrom (old new : Option Part) (prior : Option Ticket) (key : List ℕ) (now : ℕ) (value : List ℕ) (step : Step) : Type 0 where
+-- where it is known what the stripe was, that is what it comes to and leaves on this one, which stood for the history
+pub record GetsFrom (f : FrontData) (stripe : ℕ) (old new : Option Part) (prior : Option Ticket) (key : List ℕ) (now : ℕ) (value : List ℕ) (step : Step) : Type 0 where
   pub part : StripePart
   pub before : old ≡ Some (parts.Stripe part)
+  pub stands : StripeStands f stripe part
   pub step_is : step ≡ (read_step part prior key now).step
   pub value_is : value ≡ (read_step part prior key now).value
-  pub exact : ReadIsExact part key prior (read_step part prior key now)
+  pub exact : IsExactlyRead part prior key now
   pub behind : new ≡ Some (parts.Stripe (read_step part prior key now).part)
 
 -- This is so of the part that such a call takes before this one, where there is one: a call that may put a document takes the
@@ -101,17 +111,23 @@ pub record IsOut (config : Config) (kind : Kind) (stripe : ℕ) (part : PartName
   pub ahead : Ahead kind stripe part (λ p. IsSome (old p))
   pub same : (p : PartName) → there config p ≡ true → new p ≡ old p
 
--- Somebody else had a part, which a stage found on its way: when it held what it had held, and maybe more, among it the part that
--- is taken before this one, and others may have noted something.
-pub record WasElsewhere {A : Type 0} (front : A → FrontData) (holds : A → PartName → Bool) (number : A → ℕ) (is_desk : A → Bool) (is_elsewhere : A → PartName → Type 0) (kind : Kind) (stripe : ℕ) (old : A) (part : PartName) : Type 0 where
+-- Somebody else had a part, which a stage found on its way: when it held what it had held, and maybe more, but not the part, and
+-- others may have noted something. It was the same stage, seen by what no call changes.
+pub record WasElsewhere {A F : Type 0} (front : A → FrontData) (holds : A → PartName → Bool) (lent : A → GName) (fixed : A → F) (number : A → ℕ) (is_desk is_telling : A → Bool) (is_elsewhere : A → PartName → Type 0) (old : A) (part : PartName) : Type 0 where
   pub at : A
+  pub stays : Stays lent fixed number is_desk is_telling old at
   pub grown : Grown (front old) (front at) (holds old) (number old) (is_desk old)
   pub among : Among (holds old) (holds at)
-  pub ahead : Ahead kind stripe part (λ p. holds at p ≡ true)
+  pub free : holds at part ≡ false
   pub elsewhere : is_elsewhere at part
 
--- A call on the vBucket as a whole came to what it comes to on the queue as it was taken.
-pub record Controls (f : FrontData) (held : PartName → Bool) (caller : ℕ) (desk : Bool) (id : ℕ) (call : CallData) (value : List ℕ) (step : Step) : Type 0 where
+-- A call of this kind found a part with somebody else, when it held the part that it takes before that.
+pub record FoundElsewhere {A F : Type 0} (front : A → FrontData) (holds : A → PartName → Bool) (lent : A → GName) (fixed : A → F) (number : A → ℕ) (is_desk is_telling : A → Bool) (is_elsewhere : A → PartName → Type 0) (kind : Kind) (stripe : ℕ) (old : A) (part : PartName) : Type 0 where
+  pub was : WasElsewhere front holds lent fixed number is_desk is_telling is_elsewhere old part
+  pub ahead : Ahead kind stripe part (λ p. holds was.at p ≡ true)
+
+-- A call on the vBucket as a whole came to what it comes to on the queue as it was taken, and from there the history went on.
+pub record Controls (f g : FrontData) (held : PartName → Bool) (caller : ℕ) (desk : Bool) (id : ℕ) (call : CallData) (now : ℕ) (value : List ℕ) (step : Step) : Type 0 where
   pub at : FrontData
   pub grown : Grown f at held caller desk
   pub legal : IsLegal at
@@ -119,10 +135,12 @@ pub record Controls (f : FrontData) (held : PartName → Bool) (caller : ℕ) (d
   pub stands : QueueStands at queue
   pub step_is : step ≡ (control_step queue id call).step
   pub value_is : value ≡ (control_step queue id call).value
+  pub behind : Went at g (and_this names.Queue held) caller desk (event_of caller call now None step value)
 
-pub record ControlsFrom (old new : Option Part) (id : ℕ) (call : CallData) (value : List ℕ) (step : Step) : Type 0 where
+pub record ControlsFrom (f : FrontData) (old new : Option Part) (id : ℕ) (call : CallData) (value : List ℕ) (step : Step) : Type 0 where
   pub queue : QueueData
   pub before : old ≡ Some (parts.Queue queue)
+  pub stands : QueueStands f queue
   pub step_is : step ≡ (control_step queue id call).step
   pub value_is : value ≡ (control_step queue id call).value
   pub behind : new ≡ Some (parts.Queue queue)
@@ -133,8 +151,9 @@ IsExactly part queue prior call now =
     WriteIsExact part queue call (key_in call) now prior (write_step part queue prior call (key_in call) now)
     × AnsweredHasRoom part queue call (key_in call) now prior (write_step part queue prior call (key_in call) now)
 
--- A call that may put a document came to what it comes to on the stripe and the queue as they were taken.
-pub record Writes (f : FrontData) (held : PartName → Bool) (caller : ℕ) (desk : Bool) (stripe : ℕ) (prior : Option Ticket) (call : CallData) (now : ℕ) (value : List ℕ) (step : Step) : Type 0 where
+-- A call that may put a document came to what it comes to on the stripe and the queue as they were taken, and from there the
+-- history went on.
+pub record Writes (f g : FrontData) (held : PartName → Bool) (caller : ℕ) (desk : Bool) (stripe : ℕ) (prior : Option Ticket) (call : CallData) (now : ℕ) (value : List ℕ) (step : Step) : Type 0 where
   pub at : FrontData
   pub grown : Grown f at held caller desk
   pub legal : IsLegal at
@@ -145,12 +164,14 @@ pub record Writes (f : FrontData) (held : PartName → Bool) (caller : ℕ) (des
   pub step_is : step ≡ (write_step part queue prior call (key_in call) now).step
   pub value_is : value ≡ (write_step part queue prior call (key_in call) now).value
   pub exact : IsExactly part queue prior call now
+  pub behind : Went at g (and_this names.Queue (and_this (names.Stripe stripe) held)) caller desk (event_of caller call now prior step value)
 
-pub record WritesFrom (old new queue_old queue_new : Option Part) (prior : Option Ticket) (call : CallData) (now : ℕ) (value : List ℕ) (step : Step) : Type 0 where
+pub record WritesFrom (f : FrontData) (stripe : ℕ) (old new queue_old queue_new : Option Part) (prior : Option Ticket) (call : CallData) (now : ℕ) (value : List ℕ) (step : Step) : Type 0 where
   pub part : StripePart
   pub queue : QueueData
   pub before : old ≡ Some (parts.Stripe part)
   pub queued : queue_old ≡ Some (parts.Queue queue)
+  pub stands : StripeStands f stripe part × QueueStands f queue
   pub step_is : step ≡ (write_step part queue prior call (key_in call) now).step
   pub value_is : value ≡ (write_step part queue prior call (key_in call) now).value
   pub after : StripePart
@@ -206,29 +227,30 @@ passed_on true stripe (tries.Fetch ticket) passed = with_point (InStripe stripe)
 passed_on true stripe (tries.FetchFull full) passed = with_point (InStripe stripe) passed
 
 -- what a call of this kind came to on its parts as they were taken
-abbrev pub Comes : Kind → FrontData → (PartName → Bool) → ℕ → Bool → ℕ → Option Ticket → CallData → ℕ → List ℕ → Step → Type 0
-Comes kinds.Read f held caller desk stripe prior call now value step = Gets f held caller desk stripe prior (key_in call) now value step
-Comes kinds.Write f held caller desk stripe prior call now value step = Writes f held caller desk stripe prior call now value step
-Comes kinds.Control f held caller desk stripe prior call now value step = Controls f held caller desk f.id call value step
-Comes kinds.Change f held caller desk stripe prior call now value step = ⊥
+abbrev pub Comes : Kind → FrontData → FrontData → (PartName → Bool) → ℕ → Bool → ℕ → Option Ticket → CallData → ℕ → List ℕ → Step → Type 0
+Comes kinds.Read f g held caller desk stripe prior call now value step = Gets f g held caller desk stripe prior call now value step
+Comes kinds.Write f g held caller desk stripe prior call now value step = Writes f g held caller desk stripe prior call now value step
+Comes kinds.Control f g held caller desk stripe prior call now value step = Controls f g held caller desk f.id call now value step
+Comes kinds.Change f g held caller desk stripe prior call now value step = ⊥
 
 -- and where it is known what these were, what it came to and left
-abbrev pub ComesFrom : Kind → ℕ → ℕ → (PartName → Option Part) → (PartName → Option Part) → Option Ticket → CallData → ℕ → List ℕ → Step → Type 0
-ComesFrom kinds.Read id stripe old new prior call now value step = GetsFrom (old (names.Stripe stripe)) (new (names.Stripe stripe)) prior (key_in call) now value step
-ComesFrom kinds.Write id stripe old new prior call now value step = WritesFrom (old (names.Stripe stripe)) (new (names.Stripe stripe)) (old names.Queue) (new names.Queue) prior call now value step
-ComesFrom kinds.Control id stripe old new prior call now value step = ControlsFrom (old names.Queue) (new names.Queue) id call value step
-ComesFrom kinds.Change id stripe old new prior call now value step = ⊥
+abbrev pub ComesFrom : Kind → FrontData → ℕ → (PartName → Option Part) → (PartName → Option Part) → Option Ticket → CallData → ℕ → List ℕ → Step → Type 0
+ComesFrom kinds.Read f stripe old new prior call now value step = GetsFrom f stripe (old (names.Stripe stripe)) (new (names.Stripe stripe)) prior (key_in call) now value step
+ComesFrom kinds.Write f stripe old new prior call now value step = WritesFrom f stripe (old (names.Stripe stripe)) (new (names.Stripe stripe)) (old names.Queue) (new names.Queue) prior call now value step
+ComesFrom kinds.Control f stripe old new prior call now value step = ControlsFrom f (old names.Queue) (new names.Queue) f.id call value step
+ComesFrom kinds.Change f stripe old new prior call now value step = ⊥
 
 -- What is true of a call that was tried at a stage.
 -- `came`, `stripe`, `here`, `is`: what it came to, on a key of this stripe where it has a key, is what is answered;
 -- `went`, `room`: others' events and then its own, once and last, or none, were noted, and the room that this leaves;
 -- `found`, `elsewhere`: it is busy only where it found a part taken that it touches, which somebody else had, while it held
 -- what it takes before that;
--- `comes`: what it came to is what its parts and its rules say, whatever others noted before these were taken;
+-- `comes`: what it came to is what its parts and its rules say, whatever others noted before these were taken, and the history
+-- went on from there;
 -- `bare`, `short`: its value is empty unless it is answered, and within the limit;
 -- `alone`, `becomes`, `kept`: while nobody else notes anything, the history has its event more; its parts are left as it leaves
 -- them, and where one wasn't at home all are as they were; the other parts are as they were.
-pub record Tries {A : Type 0} (front : A → FrontData) (holds : A → PartName → Bool) (number : A → ℕ) (is_desk is_telling : A → Bool) (covers : A → ℕ → ℕ → Type 0) (losses : A → ℕ) (is_elsewhere : A → PartName → Type 0)
+pub record Tries {A F : Type 0} (front : A → FrontData) (holds : A → PartName → Bool) (lent : A → GName) (fixed : A → F) (number : A → ℕ) (is_desk is_telling : A → Bool) (covers : A → ℕ → ℕ → Type 0) (losses : A → ℕ) (is_elsewhere : A → PartName → Type 0)
     (tells : A → PartName → Option Part) (old new : A) (prior : Option Ticket) (call : CallData) (now : ℕ) (value : List ℕ) (tried : Tried) : Type 0 where
   pub came : Result Step Busy
   pub stripe : ℕ
@@ -237,10 +259,10 @@ pub record Tries {A : Type 0} (front : A → FrontData) (holds : A → PartName 
   pub went : Went (front old) (front new) (holds old) (number old) (is_desk old) (event_by (number old) call now prior value came)
   pub room : LeavesRoom (covers old) (covers new) (event_by (number old) call now prior value came)
   pub found : MatchResult came (λ _. losses new ≡ losses old) (λ b. (touches_call (front old).config call b.part ≡ true) × Rose (losses old) (losses new))
-  pub elsewhere : IfErr came (λ b. WasElsewhere front holds number is_desk is_elsewhere (kind_of call) stripe old b.part)
-  pub comes : IfOk came (Comes (kind_of call) (front old) (holds old) (number old) (is_desk old) stripe prior call now value)
+  pub elsewhere : IfErr came (λ b. FoundElsewhere front holds lent fixed number is_desk is_telling is_elsewhere (kind_of call) stripe old b.part)
+  pub comes : IfOk came (Comes (kind_of call) (front old) (front new) (holds old) (number old) (is_desk old) stripe prior call now value)
   pub bare : IfOk came (λ step. IsValueOf step value)
   pub short : IfOk came (λ _. length value ≤ max_value)
   pub alone : is_telling old ≡ true → front new ≡ with_noted (front old) (event_by (number old) call now prior value came)
-  pub becomes : is_telling old ≡ true → MatchResult came (ComesFrom (kind_of call) (front old).id stripe (tells old) (tells new) prior call now value) (λ b. IsOut (front old).config (kind_of call) stripe b.part (tells old) (tells new))
+  pub becomes : is_telling old ≡ true → MatchResult came (ComesFrom (kind_of call) (front old) stripe (tells old) (tells new) prior call now value) (λ b. IsOut (front old).config (kind_of call) stripe b.part (tells old) (tells new))
   pub kept : is_telling old ≡ true → KeptBut (front old).config (touches_call (front old).config call) (tells old) (tells new)

@@ -14,7 +14,7 @@ use Rattle.vb_front.specs.declared.part.StripePart.{StripePart}
 use Rattle.vb_front.specs.declared.step.Step.{Step}
 use Rattle.vb_front.specs.declared.step.Step.TheVariants as steps
 use Rattle.vb_front.specs.Stands.{StripeStands, QueueStands}
-use Rattle.vb_front.specs.Priors.{PriorsStand}
+use Rattle.hold_stage.specs.Priors.{PriorsStand}
 use Rattle.vb_front.specs.Reads.{read_step, ComesTo, WaitsOn, AsksAnew}
 use Rattle.vb_front.specs.Writes.{Write, write_step, WriteIsLegal, AnsweredHasRoom}
 use Rattle.vb_front.specs.WriteSteps.{LacksDoc, WriteComesTo, WriteIsExact, LacksRoom, IsWithoutRoomFor, Waits, Asks}

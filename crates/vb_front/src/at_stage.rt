@@ -17,7 +17,7 @@ ghost use Rattle.vb_front.specs.Controls.{is_control};
 ghost use Rattle.vb_front.specs.Priors.{key_in, event_of};
 ghost use Rattle.hold_stage.specs.Priors.{is_prior, PriorsStand};
 ghost use Rattle.vb_front.specs.Tries.{call_bytes, event_by, passed_by, Gets, GetsFrom, IsOut};
-ghost use Rattle.vb_front.specs.Tries.{Controls, ControlsFrom, Writes, WritesFrom, WasElsewhere, IsValueOf, IfBusy};
+ghost use Rattle.vb_front.specs.Tries.{Controls, ControlsFrom, Writes, WritesFrom, FoundElsewhere, IsValueOf, IfBusy};
 ghost use Rattle.vb_front.specs.Tries.{kind_of, tried_by, answered_on, passed_on, Tries};
 ghost use Rattle.vb_front.specs.declared.at_stage.Kind.TheVariants.{Read, Write, Control, Change};
 
@@ -202,15 +202,15 @@ pub(crate) fn try_get<S: Stage<Part = Part>, G: Gate>(
     ensures held { Same (S.holds stage.new) (S.holds stage.old) }
     ensures found { MatchResult result (λ _. S.losses stage.new ≡ S.losses stage.old)
         (λ b. (b.part ≡ Stripe stripe) × Rose (S.losses stage.old) (S.losses stage.new)) }
-    ensures elsewhere { IfErr result (λ b. WasElsewhere S.front S.holds S.number S.is_desk
-        S.elsewhere Read stripe stage.old b.part) }
-    ensures gets { IfOk result (Gets (S.front stage.old) (S.holds stage.old) (S.number stage.old) (S.is_desk stage.old) stripe
-        prior (key_in (call_data call.now)) now value.new.bytes) }
+    ensures elsewhere { IfErr result (λ b. FoundElsewhere S.front S.holds S.lent S.fixed S.number
+        S.is_desk S.is_telling S.elsewhere Read stripe stage.old b.part) }
+    ensures gets { IfOk result (Gets (S.front stage.old) (S.front stage.new) (S.holds stage.old) (S.number stage.old)
+        (S.is_desk stage.old) stripe prior (call_data call.now) now value.new.bytes) }
     ensures passed { G.passed gate.new ≡ passed_by stripe result (G.passed gate.old) }
     ensures alone { S.is_telling stage.old ≡ true → S.front stage.new ≡ with_noted (S.front stage.old)
         (event_by (S.number stage.old) (call_data call.now) now prior value.new.bytes result) }
-    ensures becomes { S.is_telling stage.old ≡ true → MatchResult result (GetsFrom (S.tells stage.old (Stripe stripe))
-        (S.tells stage.new (Stripe stripe)) prior (key_in (call_data call.now)) now value.new.bytes)
+    ensures becomes { S.is_telling stage.old ≡ true → MatchResult result (GetsFrom (S.front stage.old) stripe
+        (S.tells stage.old (Stripe stripe)) (S.tells stage.new (Stripe stripe)) prior (key_in (call_data call.now)) now value.new.bytes)
         (λ b. IsOut (S.front stage.old).config Read stripe b.part (S.tells stage.old) (S.tells stage.new)) }
     ensures kept { S.is_telling stage.old ≡ true → KeptBut (S.front stage.old).config (is_stripe stripe) (S.tells stage.old)
         (S.tells stage.new) }
@@ -252,14 +252,14 @@ pub(crate) fn try_control<S: Stage<Part = Part>>(
     ensures held { Same (S.holds stage.new) (S.holds stage.old) }
     ensures found { MatchResult result (λ _. S.losses stage.new ≡ S.losses stage.old)
         (λ b. (b.part ≡ Queue) × Rose (S.losses stage.old) (S.losses stage.new)) }
-    ensures elsewhere { IfErr result (λ b. WasElsewhere S.front S.holds S.number S.is_desk
-        S.elsewhere Control 0 stage.old b.part) }
-    ensures controls { IfOk result (Controls (S.front stage.old) (S.holds stage.old) (S.number stage.old) (S.is_desk stage.old)
-        vb (call_data call.now) value.new.bytes) }
+    ensures elsewhere { IfErr result (λ b. FoundElsewhere S.front S.holds S.lent S.fixed S.number
+        S.is_desk S.is_telling S.elsewhere Control 0 stage.old b.part) }
+    ensures controls { IfOk result (Controls (S.front stage.old) (S.front stage.new) (S.holds stage.old)
+        (S.number stage.old) (S.is_desk stage.old) vb (call_data call.now) now value.new.bytes) }
     ensures alone { S.is_telling stage.old ≡ true → S.front stage.new ≡ with_noted (S.front stage.old)
         (event_by (S.number stage.old) (call_data call.now) now None value.new.bytes result) }
-    ensures becomes { S.is_telling stage.old ≡ true → MatchResult result (ControlsFrom (S.tells stage.old Queue)
-        (S.tells stage.new Queue) vb (call_data call.now) value.new.bytes)
+    ensures becomes { S.is_telling stage.old ≡ true → MatchResult result (ControlsFrom (S.front stage.old)
+        (S.tells stage.old Queue) (S.tells stage.new Queue) vb (call_data call.now) value.new.bytes)
         (λ b. IsOut (S.front stage.old).config Control 0 b.part (S.tells stage.old) (S.tells stage.new)) }
     ensures kept { S.is_telling stage.old ≡ true → KeptBut (S.front stage.old).config is_queue (S.tells stage.old)
         (S.tells stage.new) }
@@ -310,15 +310,15 @@ pub(crate) fn try_write<S: Stage<Part = Part>, G: Gate>(
     ensures held { Same (S.holds stage.new) (S.holds stage.old) }
     ensures found { MatchResult result (λ _. S.losses stage.new ≡ S.losses stage.old)
         (λ b. ((is_stripe stripe b.part || is_queue b.part) ≡ true) × Rose (S.losses stage.old) (S.losses stage.new)) }
-    ensures elsewhere { IfErr result (λ b. WasElsewhere S.front S.holds S.number S.is_desk
-        S.elsewhere Write stripe stage.old b.part) }
-    ensures writes { IfOk result (Writes (S.front stage.old) (S.holds stage.old) (S.number stage.old) (S.is_desk stage.old) stripe
-        prior (call_data call.now) now value.new.bytes) }
+    ensures elsewhere { IfErr result (λ b. FoundElsewhere S.front S.holds S.lent S.fixed S.number
+        S.is_desk S.is_telling S.elsewhere Write stripe stage.old b.part) }
+    ensures writes { IfOk result (Writes (S.front stage.old) (S.front stage.new) (S.holds stage.old)
+        (S.number stage.old) (S.is_desk stage.old) stripe prior (call_data call.now) now value.new.bytes) }
     ensures passed { G.passed gate.new ≡ passed_by stripe result (G.passed gate.old) }
     ensures alone { S.is_telling stage.old ≡ true → S.front stage.new ≡ with_noted (S.front stage.old)
         (event_by (S.number stage.old) (call_data call.now) now prior value.new.bytes result) }
-    ensures becomes { S.is_telling stage.old ≡ true → MatchResult result (WritesFrom (S.tells stage.old (Stripe stripe))
-        (S.tells stage.new (Stripe stripe)) (S.tells stage.old Queue) (S.tells stage.new Queue) prior (call_data call.now) now
+    ensures becomes { S.is_telling stage.old ≡ true → MatchResult result (WritesFrom (S.front stage.old) stripe
+        (S.tells stage.old (Stripe stripe)) (S.tells stage.new (Stripe stripe)) (S.tells stage.old Queue) (S.tells stage.new Queue) prior (call_data call.now) now
         value.new.bytes)
         (λ b. IsOut (S.front stage.old).config Write stripe b.part (S.tells stage.old) (S.tells stage.new)) }
     ensures kept { S.is_telling stage.old ≡ true → KeptBut (S.front stage.old).config (λ p. is_stripe stripe p || is_queue p)
@@ -375,8 +375,8 @@ pub fn try_call<S: Stage<Part = Part>, G: Gate>(
     requires value { max_value ≤ value.old.spare + length value.old.bytes }
     ensures stays { Stays S.lent S.fixed S.number S.is_desk S.is_telling stage.old stage.new }
     ensures held { Same (S.holds stage.new) (S.holds stage.old) }
-    ensures tries { Tries S.front S.holds S.number S.is_desk S.is_telling S.covers S.losses S.elsewhere S.tells stage.old stage.new
-        prior (call_data call.now) now value.new.bytes result }
+    ensures tries { Tries S.front S.holds S.lent S.fixed S.number S.is_desk S.is_telling S.covers S.losses
+        S.elsewhere S.tells stage.old stage.new prior (call_data call.now) now value.new.bytes result }
     ensures passed { G.passed gate.new ≡ passed_on (has_key (call_data call.now))
         (stripe_of (key_in (call_data call.now)) config.now.stripes) result (G.passed gate.old) }
     ensures same { IfBusy result (value.new ≡ value.old) }
