@@ -16,8 +16,8 @@ use Rattle.ckpt_manager.specs.declared.data.QueueData.{QueueData}
 use Rattle.vb_front.specs.declared.part.StripePart.{StripePart}
 use Rattle.vb_front.specs.declared.step.Step.{Step}
 use Rattle.vb_front.specs.declared.step.Step.TheVariants as steps
-use Rattle.vb_front.specs.declared.wait.Waited.{Waited}
-use Rattle.vb_front.specs.declared.wait.Waited.TheVariants as waits
+use Rattle.vb_front.specs.declared.wait.Meaning.{Meaning}
+use Rattle.vb_front.specs.declared.wait.Meaning.TheVariants as waits
 use Rattle.vb_front.specs.Waits.{Memory, Known, Away, memory_of, waited, release}
 use Rattle.vb_front.specs.Reads.{Read, read_refused, read_waits, read_memory, read_active, read_step}
 use Rattle.vb_front.specs.Writes.{shown_world, seen_meta, shown_doc, text_at, is_away, row_of, Stays, Write, write_refused, lacks_room, write_put, write_effect, write_over, write_crowded, write_waits, write_found, write_active, write_step}
@@ -36,7 +36,7 @@ asks_bare : (b : Bool) (ticket : Ticket) → IsValueOf (cond b steps.FetchFull (
 asks_bare true ticket = refl
 asks_bare false ticket = refl
 
-read_waits_bare : (part : StripePart) (prior : Option Ticket) (key : List ℕ) (w : Waited) → IsBareRead (read_waits part prior key w)
+read_waits_bare : (part : StripePart) (prior : Option Ticket) (key : List ℕ) (w : Meaning) → IsBareRead (read_waits part prior key w)
 read_waits_bare part prior key (waits.Waits ticket) = refl
 read_waits_bare part prior key waits.Asks = asks_bare (is_full (release part.book prior)) (next_ticket (release part.book prior))
 read_waits_bare part prior key waits.Absent = tt
@@ -82,7 +82,7 @@ write_crowded_bare : (part : StripePart) (prior : Option Ticket) (o : Option ℕ
 write_crowded_bare part prior None = refl
 write_crowded_bare part prior (Some status) = tt
 
-write_waits_bare : (part : StripePart) (q : QueueData) (prior : Option Ticket) (call : CallData) (key : List ℕ) (now : ℕ) (w : Waited) → IsBareWrite (write_waits part q prior call key now w)
+write_waits_bare : (part : StripePart) (q : QueueData) (prior : Option Ticket) (call : CallData) (key : List ℕ) (now : ℕ) (w : Meaning) → IsBareWrite (write_waits part q prior call key now w)
 write_waits_bare part q prior call key now (waits.Waits ticket) = refl
 write_waits_bare part q prior call key now waits.Asks = asks_bare (is_full (release part.book prior)) (next_ticket (release part.book prior))
 write_waits_bare part q prior call key now waits.Absent = write_over_bare part q prior call now None

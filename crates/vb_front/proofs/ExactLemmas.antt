@@ -16,9 +16,9 @@ use Rattle.fetch_book.specs.declared.place.Outcome.TheVariants as outcomes
 use Rattle.fetch_book.specs.Books.{is_full, next_ticket, asked}
 use Rattle.vb_front.specs.declared.part.StripePart.{StripePart}
 use Rattle.vb_front.specs.declared.step.Step.TheVariants as steps
-use Rattle.vb_front.specs.declared.wait.Waited.TheVariants as waited
+use Rattle.vb_front.specs.declared.wait.Meaning.TheVariants as waited
 use Rattle.vb_front.specs.Waits.{Memory, Known, Away, value_memory, slot_memory, memory_of, has_no_room, prior_outcome, waited_for, release}
-use Rattle.vb_front.specs.Reads.{Read, read_refused, read_asks, read_waits, read_memory, read_active, read_step, IsAwayFrom, NeedsAway, IsUnserved, ComesTo, IsFreed, ReadIsExact}
+use Rattle.vb_front.specs.Reads.{Read, read_refused, read_asks, read_waits, read_memory, read_active, read_step, IsAwayFrom, NeedsAway, IsUnserved, ReadComesTo, IsFreed, ReadIsExact}
 use Rattle.vb_front.proofs.ReadLemmas.{active_is}
 
 -- memory lacks what the node lacks
@@ -51,8 +51,8 @@ module _ (old : StripePart) (key : List ℕ) (now : ℕ) where
   asks : NeedsAway old key → (prior : Option Ticket) → IsUnserved old.table key (prior_outcome old.book prior) → Exact prior (read_asks old (release old.book prior) key)
   asks needs prior unserved = record { comes = comes; freed = freed }
     where
-      comes : ComesTo old key prior (cond (is_full (release old.book prior)) steps.FetchFull (steps.Fetch (next_ticket (release old.book prior)))) (cond (is_full (release old.book prior)) (release old.book prior) (asked (release old.book prior) key))
-      comes = elim (is_full (release old.book prior)) as (λ b. is_full (release old.book prior) ≡ b → ComesTo old key prior (cond b steps.FetchFull (steps.Fetch (next_ticket (release old.book prior)))) (cond b (release old.book prior) (asked (release old.book prior) key))) [
+      comes : ReadComesTo old key prior (cond (is_full (release old.book prior)) steps.FetchFull (steps.Fetch (next_ticket (release old.book prior)))) (cond (is_full (release old.book prior)) (release old.book prior) (asked (release old.book prior) key))
+      comes = elim (is_full (release old.book prior)) as (λ b. is_full (release old.book prior) ≡ b → ReadComesTo old key prior (cond b steps.FetchFull (steps.Fetch (next_ticket (release old.book prior)))) (cond b (release old.book prior) (asked (release old.book prior) key))) [
         | true ↦ λ is. record { needs = needs; unserved = unserved; full = is }
         | false ↦ λ is. inr (record { needs = needs; unserved = unserved; free = is; next = refl; book = refl })
       ] refl

@@ -25,7 +25,7 @@ use Rattle.fetch_book.specs.declared.place.Outcome.TheVariants as outcomes
 use Rattle.fetch_book.specs.Books.{BookData, is_full, next_ticket}
 use Rattle.vb_front.specs.declared.part.StripePart.{StripePart}
 use Rattle.vb_front.specs.declared.step.Step.TheVariants as steps
-use Rattle.vb_front.specs.declared.wait.Waited.TheVariants as waits
+use Rattle.vb_front.specs.declared.wait.Meaning.TheVariants as waits
 use Rattle.vb_front.specs.Stands.{StripeStands}
 use Rattle.hold_stage.specs.Priors.{PriorsStand}
 use Rattle.vb_front.specs.Waits.{Memory, Known, Away, value_memory, slot_memory, memory_of, has_no_room, prior_outcome, waited_for, release, ask_step}

@@ -29,8 +29,8 @@ use Rattle.hash_stripe.specs.Stripes.{AreApart, IsStripe}
 use Rattle.fetch_book.specs.declared.place.Outcome.{Outcome}
 use Rattle.fetch_book.specs.declared.place.Outcome.TheVariants as outcomes
 use Rattle.vb_front.specs.declared.part.StripePart.{StripePart}
-use Rattle.vb_front.specs.declared.wait.Waited.{Waited}
-use Rattle.vb_front.specs.declared.wait.Waited.TheVariants as waited
+use Rattle.vb_front.specs.declared.wait.Meaning.{Meaning}
+use Rattle.vb_front.specs.declared.wait.Meaning.TheVariants as waited
 use Rattle.vb_front.specs.Stands.{IsOfBlocks, OutcomeShows, StripeStands}
 use Rattle.hold_stage.specs.Waits.{IsAbsent}
 use Rattle.vb_front.specs.Priors.{event_of, IsNext}
@@ -197,7 +197,7 @@ keeps_memory : (part : StripePart) (prior : Option Ticket) (key : List ℕ) (now
 keeps_memory part prior key now (Known doc) = record { index = refl; stripes = refl }
 keeps_memory part prior key now Away = at (waited_for part.table key prior (prior_outcome part.book prior))
   where
-    at : (w : Waited) → KeepsStripe part (read_waits part prior key w).part
+    at : (w : Meaning) → KeepsStripe part (read_waits part prior key w).part
     at (waited.Waits ticket) = record { index = refl; stripes = refl }
     at waited.Asks = record { index = refl; stripes = refl }
     at waited.Absent = record { index = refl; stripes = refl }

@@ -36,7 +36,7 @@ use Rattle.ckpt_manager.specs.declared.data.QueueData.{QueueData}
 use Rattle.ckpt_manager.specs.Queue.{kept_with}
 use Rattle.vb_front.specs.declared.part.StripePart.{StripePart}
 use Rattle.vb_front.specs.declared.step.Step.TheVariants as steps
-use Rattle.vb_front.specs.declared.wait.Waited.TheVariants as waits
+use Rattle.vb_front.specs.declared.wait.Meaning.TheVariants as waits
 use Rattle.vb_front.specs.Stands.{IsShownValue, IsGone, StripeStands, QueueStands}
 use Rattle.hold_stage.specs.Waits.{IsAbsent}
 use Rattle.hold_stage.specs.Priors.{PriorsStand}

@@ -17,18 +17,18 @@ use Rattle.ckpt_manager.specs.declared.data.QueueData.{QueueData}
 use Rattle.vb_front.specs.declared.part.StripePart.{StripePart}
 use Rattle.vb_front.specs.declared.step.Step.{Step}
 use Rattle.vb_front.specs.Waits.{waited}
-use Rattle.vb_front.specs.Writes.{seen_meta, shown_doc, text_at, is_away, store_row, delete_row, step_of, value_if, Write, write_put, write_answer, write_over, write_waits, write_found, Comes}
+use Rattle.vb_front.specs.Writes.{seen_meta, shown_doc, text_at, is_away, store_row, delete_row, step_of, value_if, Write, write_put, write_answer, write_over, write_waits, write_found, Wrote}
 
 -- the same under another name of the answer and of the step
 pub comes_as : (old : StripePart) (q : QueueData) (prior : Option Ticket) (a b : Answer) (s t : Step) (new : StripePart) (after : QueueData) → a ≡ b → s ≡ t
-    → Comes old q (write_answer old q prior a) s new after → Comes old q (write_answer old q prior b) t new after
+    → Wrote old q (write_answer old q prior a) s new after → Wrote old q (write_answer old q prior b) t new after
 comes_as old q prior a b s t new after same came c =
-    subst (λ (x : Answer). Comes old q (write_answer old q prior x) t new after) same
-    (subst (λ (x : Step). Comes old q (write_answer old q prior a) x new after) came c)
+    subst (λ (x : Answer). Wrote old q (write_answer old q prior x) t new after) same
+    (subst (λ (x : Step). Wrote old q (write_answer old q prior a) x new after) came c)
 
 pub comes_write : (old : StripePart) (q : QueueData) (v w : Write) (s : Step) (new : StripePart) (after : QueueData) → v ≡ w
-    → Comes old q v s new after → Comes old q w s new after
-comes_write old q v w s new after same c = subst (λ (x : Write). Comes old q x s new after) same c
+    → Wrote old q v s new after → Wrote old q w s new after
+comes_write old q v w s new after same c = subst (λ (x : Write). Wrote old q x s new after) same c
 
 -- a call that lacks what it needs, and one that doesn't
 pub found_waits : (part : StripePart) (q : QueueData) (prior : Option Ticket) (call : CallData) (key : List ℕ) (now : ℕ) (seen : Found) (b : Bool)

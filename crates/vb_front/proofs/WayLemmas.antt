@@ -25,14 +25,14 @@ use Rattle.ckpt_manager.specs.declared.data.QueueData.{QueueData}
 use Rattle.vb_front.specs.declared.part.StripePart.{StripePart}
 use Rattle.vb_front.specs.declared.step.Step.{Step}
 use Rattle.vb_front.specs.declared.step.Step.TheVariants as steps
-use Rattle.vb_front.specs.declared.wait.Waited.{Waited}
-use Rattle.vb_front.specs.declared.wait.Waited.TheVariants as waits
+use Rattle.vb_front.specs.declared.wait.Meaning.{Meaning}
+use Rattle.vb_front.specs.declared.wait.Meaning.TheVariants as waits
 use Rattle.vb_front.specs.Stands.{StripeStands, QueueStands}
 use Rattle.vb_front.specs.Priors.{event_of, IsNext}
 use Rattle.vb_front.specs.Waits.{Memory, Known, Away, value_memory, slot_memory, memory_of, prior_outcome, waited_at, waited_for, waited, release, ask_step}
-use Rattle.vb_front.specs.Reads.{HasPlace, IsUnserved, IsAwayFrom, NeedsAway, IsDone, ComesTo, read_refused, read_waits, read_memory, read_active, read_step}
+use Rattle.vb_front.specs.Reads.{HasPlaceWith, IsUnserved, IsAwayFrom, NeedsAway, IsDone, ReadComesTo, read_refused, read_waits, read_memory, read_active, read_step}
 use Rattle.vb_front.specs.Writes.{write_crowded, write_waits, write_step}
-use Rattle.vb_front.specs.WriteSteps.{LacksDoc, IsServed, LacksRoom, IsWithoutRoomFor, Waits, Asks, WriteComesTo}
+use Rattle.vb_front.specs.WriteSteps.{LacksDoc, NeedsNoMore, PutsWithoutRoom, IsWithoutRoomFor, Waits, Asks, WriteComesTo}
 use Rattle.vb_front.specs.Ways.{way_of, ReadStepsAreApart, ReadFollowsItsCondition, WaitingReadsAskNothing, WriteStepsAreApart, WriteFollowsItsCondition, WaitingWritesAskNothing, RoomLacksForOne, QuotaIsWantOfRoom}
 use Rattle.vb_front.proofs.ReadLemmas.{active_is}
 use Rattle.vb_front.proofs.ExactLemmas.{away_from}
@@ -46,7 +46,7 @@ lacks_so a b is = grind (arith, nat_tests)
 
 -- what the call's own place means to it
 module _ (s : StripeData) (book : BookData) (key : List ℕ) where
-  placed_waits : (prior : Option Ticket) (ticket : Ticket) (outcome : Outcome) → HasPlace book prior ticket outcome → waited s book key prior ≡ waited_at s key ticket outcome
+  placed_waits : (prior : Option Ticket) (ticket : Ticket) (outcome : Outcome) → HasPlaceWith book prior ticket outcome → waited s book key prior ≡ waited_at s key ticket outcome
   placed_waits prior ticket outcome h =
       ap (λ (p : Option Ticket). waited s book key p) h.prior_is ∙ ap (waited_for s key (Some ticket)) h.outcome_is
 
@@ -75,7 +75,7 @@ module _ (s : StripeData) (book : BookData) (key : List ℕ) where
   unserved_waits prior u = unserved_for prior (prior_outcome book prior) u
 
   -- a place that waits serves its call
-  waiting_serves : (prior : Option Ticket) (ticket : Ticket) → HasPlace book prior ticket outcomes.Waiting → IsUnserved s key (prior_outcome book prior) → ⊥
+  waiting_serves : (prior : Option Ticket) (ticket : Ticket) → HasPlaceWith book prior ticket outcomes.Waiting → IsUnserved s key (prior_outcome book prior) → ⊥
   waiting_serves prior ticket h u =
       let e = sym (placed_waits prior ticket outcomes.Waiting h) ∙ unserved_waits prior u in cc
 
@@ -102,12 +102,12 @@ module _ (old : StripePart) (key : List ℕ) (prior : Option Ticket) (now : ℕ)
   read_opened opened = ap (λ b. way_of (cond b (read_active old prior key now (state_refusal old.table.state true)) (read_refused old prior causes.Warming)).step) opened
 
   -- it needs what isn't in memory, and its place means this
-  read_means : NeedsAway old key → (means : Waited) → waited old.table old.book key prior ≡ means → came ≡ way_of (read_waits old prior key means).step
+  read_means : NeedsAway old key → (means : Meaning) → waited old.table old.book key prior ≡ means → came ≡ way_of (read_waits old prior key means).step
   read_means needs means is =
       read_opened needs.opened
       ∙ ap (λ (v : VbState). way_of (read_active old prior key now (state_refusal v true)).step) needs.active
       ∙ ap (λ (m : Memory). way_of (read_memory old prior key now m).step) (away_memory (node_at old.table.slots key) old.table.eviction needs.away)
-      ∙ ap (λ (w : Waited). way_of (read_waits old prior key w).step) is
+      ∙ ap (λ (w : Meaning). way_of (read_waits old prior key w).step) is
 
   read_answers : IsDone old key prior → came ≡ None
   read_answers d = read_opened d.opened ∙ at (state_refusal old.table.state true) refl
@@ -116,13 +116,13 @@ module _ (old : StripePart) (key : List ℕ) (prior : Option Ticket) (now : ℕ)
       in_memory active (Known doc) is = refl
       in_memory active Away is =
           let needs : NeedsAway old key = record { opened = d.opened; active = active; away = away_from (node_at old.table.slots key) old.table.eviction is } in
-          ap (λ (w : Waited). way_of (read_waits old prior key w).step) (absent_waits old.table old.book key prior (d.absent needs))
+          ap (λ (w : Meaning). way_of (read_waits old prior key w).step) (absent_waits old.table old.book key prior (d.absent needs))
 
       at : (refusal : Option ℕ) → state_refusal old.table.state true ≡ refusal → way_of (read_active old prior key now refusal).step ≡ None
       at (Some status) is = refl
       at None is = in_memory (active_is old.table.state is) (memory_of old.table key) refl
 
-  read_follows : (step : Step) (book : BookData) → ComesTo old key prior step book → came ≡ way_of step
+  read_follows : (step : Step) (book : BookData) → ReadComesTo old key prior step book → came ≡ way_of step
   read_follows (steps.Done reply) book c = read_answers c
   read_follows (steps.Refused causes.Warming) book c = ap (λ b. way_of (cond b (read_active old prior key now (state_refusal old.table.state true)) (read_refused old prior causes.Warming)).step) c
   read_follows (steps.Refused causes.Quota) book c = read_means c.needs (waits.Refused causes.Quota) (crowded_waits old.table old.book key prior c.blocks c.outcome c.full)
@@ -158,23 +158,23 @@ record IsShut (part : StripePart) (step : Step) : Type 0 where
 -- What it lacks it needs no more: it is answered, or has no room for what it puts.
 record GoesOn (part : StripePart) (q : QueueData) (call : CallData) (key : List ℕ) (now : ℕ) (prior : Option Ticket) (step : Step) : Type 0 where
   opened : part.table.opened ≡ true
-  served : LacksDoc part call key → IsServed part q call key (prior_outcome part.book prior)
-  way : ((way_of step ≡ None) × (LacksRoom part q call key now prior → ⊥)) ⊎ ((way_of step ≡ Some (steps.Refused causes.Quota)) × LacksRoom part q call key now prior)
+  served : LacksDoc part call key → NeedsNoMore part q call key (prior_outcome part.book prior)
+  way : ((way_of step ≡ None) × (PutsWithoutRoom part q call key now prior → ⊥)) ⊎ ((way_of step ≡ Some (steps.Refused causes.Quota)) × PutsWithoutRoom part q call key now prior)
 
 -- It lacks what it needs, and its place says how it goes on.
 record IsHeld (part : StripePart) (q : QueueData) (call : CallData) (key : List ℕ) (now : ℕ) (prior : Option Ticket) (step : Step) : Type 0 where
   lacks : LacksDoc part call key
-  unserved : IsServed part q call key (prior_outcome part.book prior) → ⊥
+  unserved : NeedsNoMore part q call key (prior_outcome part.book prior) → ⊥
   way : way_of step ≡ way_of (write_waits part q prior call key now (waited part.table part.book key prior)).step
 
 module _ (part : StripePart) (q : QueueData) (call : CallData) (key : List ℕ) (now : ℕ) (prior : Option Ticket) where
   abbrev Serves : Option Outcome → Type 0
-  Serves outcome = IsServed part q call key outcome
+  Serves outcome = NeedsNoMore part q call key outcome
 
-  abbrev meant : Waited → Option Step
+  abbrev meant : Meaning → Option Step
   meant w = way_of (write_waits part q prior call key now w).step
 
-  serves_placed : (ticket : Ticket) (outcome : Outcome) → HasPlace part.book prior ticket outcome → Serves (prior_outcome part.book prior) → Serves (Some outcome)
+  serves_placed : (ticket : Ticket) (outcome : Outcome) → HasPlaceWith part.book prior ticket outcome → Serves (prior_outcome part.book prior) → Serves (Some outcome)
   serves_placed ticket outcome h s = subst (λ (o : Option Outcome). Serves o) (ap (λ (p : Option Ticket). prior_outcome part.book p) h.prior_is ∙ h.outcome_is) s
 
   serves_unserved : (outcome : Option Outcome) → IsUnserved part.table key outcome → Serves outcome → ⊥
@@ -199,7 +199,7 @@ module _ (part : StripePart) (q : QueueData) (call : CallData) (key : List ℕ) 
     way = sym (ap meant (crowded_waits part.table part.book key prior c.blocks c.outcome c.crowded.full) ∙ ap (λ (o : Option ℕ). way_of (write_crowded part prior o).step) c.own);
   }
 
-  held_placed : LacksDoc part call key → (ticket : Ticket) (outcome : Outcome) → HasPlace part.book prior ticket outcome → (Serves (Some outcome) → ⊥)
+  held_placed : LacksDoc part call key → (ticket : Ticket) (outcome : Outcome) → HasPlaceWith part.book prior ticket outcome → (Serves (Some outcome) → ⊥)
       → (step : Step) → way_of step ≡ meant (waited_at part.table key ticket outcome) → IsHeld part q call key now prior step
   held_placed lacks ticket outcome h none step is = record {
     lacks = lacks;

@@ -21,11 +21,11 @@ use Rattle.fetch_book.specs.Books.{is_full, next_ticket, asked}
 use Rattle.ckpt_manager.specs.declared.data.QueueData.{QueueData}
 use Rattle.vb_front.specs.declared.part.StripePart.{StripePart}
 use Rattle.vb_front.specs.declared.step.Step.TheVariants as steps
-use Rattle.vb_front.specs.declared.wait.Waited.TheVariants as waits
+use Rattle.vb_front.specs.declared.wait.Meaning.TheVariants as waits
 use Rattle.vb_front.specs.Waits.{has_no_room, prior_outcome, waited_for, waited, release}
 use Rattle.vb_front.specs.Reads.{IsUnserved}
 use Rattle.vb_front.specs.Writes.{shown_world, seen_meta, shown_doc, text_at, is_away, row_of, Stays, Write, lacks_room, write_refused, write_put, write_effect, write_over, write_crowded, write_waits, write_active, write_step}
-use Rattle.vb_front.specs.WriteSteps.{LacksDoc, IsCrowded, IsServed, doc_for, WriteComesTo, WriteFrees, WriteIsExact}
+use Rattle.vb_front.specs.WriteSteps.{LacksDoc, IsCrowded, NeedsNoMore, doc_for, WriteComesTo, WriteFrees, WriteIsExact}
 use Rattle.vb_front.proofs.AskLemmas.{and_left, and_right}
 use Rattle.vb_front.proofs.ReadLemmas.{active_is}
 use Rattle.vb_front.proofs.RowEffectLemmas.{IsRowEffect, row_effect}
@@ -55,7 +55,7 @@ module _ (old : StripePart) (q : QueueData) (call : CallData) (key : List ℕ) (
   Exact prior w = WriteIsExact old q call key now prior w
 
   abbrev Served : Option Ticket → Type 0
-  Served prior = LacksDoc old call key → IsServed old q call key (prior_outcome old.book prior)
+  Served prior = LacksDoc old call key → NeedsNoMore old q call key (prior_outcome old.book prior)
 
   -- it is answered over the document that is meant
   effect_exact : (prior : Option Ticket) → old.table.opened ≡ true → old.table.state ≡ Active → Served prior → (a : Answer) (effect : Effect) → a.effect ≡ effect
@@ -117,7 +117,7 @@ module _ (old : StripePart) (q : QueueData) (call : CallData) (key : List ℕ) (
   crowded_exact lacks ticket blocks is full (Some status) own = record {
     comes = record {
       opened = lacks.opened;
-      served = λ l. subst (λ (o : Option Outcome). IsServed old q call key o) (sym is) (full, subst (λ (o : Option ℕ). IsSome o) (sym own) refl);
+      served = λ l. subst (λ (o : Option Outcome). NeedsNoMore old q call key o) (sym is) (full, subst (λ (o : Option ℕ). IsSome o) (sym own) refl);
       room = λ l. let e = own_effect (shown_world old.table q) call now status (live_of (doc_for old call key) now) own in let p = l.puts in cc;
     };
     freed = refl;
@@ -130,7 +130,7 @@ module _ (old : StripePart) (q : QueueData) (call : CallData) (key : List ℕ) (
   waits_exact lacks (Some ticket) (Some outcomes.Waiting) is = record { comes = inl (record { lacks = lacks; place = record { prior_is = refl; outcome_is = is }; book = refl }); freed = tt }
   waits_exact lacks (Some ticket) (Some outcomes.Merged) is = asks_exact lacks (Some ticket) (subst (λ (o : Option Outcome). IsUnserved old.table key o) (sym is) tt)
   waits_exact lacks (Some ticket) (Some outcomes.Absent) is =
-      over_exact (Some ticket) lacks.opened lacks.active (λ l. subst (λ (o : Option Outcome). IsServed old q call key o) (sym is) tt) None (lacks_none lacks)
+      over_exact (Some ticket) lacks.opened lacks.active (λ l. subst (λ (o : Option Outcome). NeedsNoMore old q call key o) (sym is) tt) None (lacks_none lacks)
   waits_exact lacks (Some ticket) (Some (outcomes.Failed fault)) is = record { comes = record { lacks = lacks; fault = fault; place = record { prior_is = refl; outcome_is = is } }; freed = refl }
   waits_exact lacks (Some ticket) (Some outcomes.NoMemory) is = record { comes = record { lacks = lacks; place = record { prior_is = refl; outcome_is = is } }; freed = refl }
   waits_exact lacks (Some ticket) (Some (outcomes.NoRoom blocks)) is =

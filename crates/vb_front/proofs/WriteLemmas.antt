@@ -42,13 +42,13 @@ use Rattle.ckpt_manager.specs.Queue.{item_of, kept_with}
 use Rattle.vb_front.specs.declared.part.StripePart.{StripePart}
 use Rattle.vb_front.specs.declared.step.Step.{Step}
 use Rattle.vb_front.specs.declared.step.Step.TheVariants as steps
-use Rattle.vb_front.specs.declared.wait.Waited.TheVariants as waits
+use Rattle.vb_front.specs.declared.wait.Meaning.TheVariants as waits
 use Rattle.vb_front.specs.Stands.{TableStands, BookStands, StripeStands, QueueStands, OutcomeShows}
 use Rattle.vb_front.specs.Priors.{event_of, IsNext}
 use Rattle.hold_stage.specs.Priors.{is_prior, PriorsStand}
 use Rattle.vb_front.specs.Queues.{IsPutBy, PutsNothing}
 use Rattle.vb_front.specs.Waits.{Away, value_memory, slot_memory, has_no_room, prior_outcome, waited_for, waited, release, ask_step, ask_book}
-use Rattle.vb_front.specs.Writes.{shown_world, seen_meta, shown_doc, text_at, is_away, row_of, Act, Stays, Write, forget, write_done, write_refused, lacks_room, write_put, write_effect, write_over, write_crowded, write_waits, write_active, write_step, node_of, LeavesSlots, Queues, Leaves, WriteIsLegal}
+use Rattle.vb_front.specs.Writes.{shown_world, seen_meta, shown_doc, text_at, is_away, row_of, DocumentChange, Stays, Write, forget, write_done, write_refused, lacks_room, write_put, write_effect, write_over, write_crowded, write_waits, write_active, write_step, node_of, LeavesSlots, Queues, Leaves, WriteIsLegal}
 use Rattle.vb_front.specs.Reads.{KeepsStripe}
 use Rattle.vb_front.proofs.AskLemmas.{and_left, and_right, ticket_same, other_ticket}
 use Rattle.vb_front.proofs.CalmLemmas.{calm_asked, queue_calm}
@@ -184,13 +184,13 @@ module _ (f : FrontData) (stripe caller now : ℕ) (call : CallData) (key : List
         shown_row None ∙ ap (λ (o : Option Doc). row_of (world_of f) call now o) (sym (absent_live now (get (world_of f).docs key) gone)) ∙ row_answer active
 
     -- The parts that are left: of the same memory, with these places.
-    same_table : (new : StripeData) (act : Act) → act ≡ Stays → LeavesSlots old.table act new → new ≡ old.table
-    same_table new act is left = let l = subst (λ (a : Act). LeavesSlots old.table a new) is left in l.rest ∙ ap (λ (x : List Slot). record old.table { slots = x }) l.slots
+    same_table : (new : StripeData) (change : DocumentChange) → change ≡ Stays → LeavesSlots old.table change new → new ≡ old.table
+    same_table new change is left = let l = subst (λ (a : DocumentChange). LeavesSlots old.table a new) is left in l.rest ∙ ap (λ (x : List Slot). record old.table { slots = x }) l.slots
 
     part_is : (new : StripePart) (table : StripeData) (book : BookData) → new.table ≡ table → new.book ≡ book → record { table = table; book = book } ≡ new
     part_is new table book t b = sym (ap (λ x. record { table = x; book = new.book }) t ∙ ap (λ x. record { table = table; book = x }) b)
 
-    stays_next : (e : Option EventData) (step : Step) (value : List ℕ) (book : BookData) (new : StripePart) (after : QueueData) → Leaves old q (record { step = step; value = value; book = book; act = Stays }) new after
+    stays_next : (e : Option EventData) (step : Step) (value : List ℕ) (book : BookData) (new : StripePart) (after : QueueData) → Leaves old q (record { step = step; value = value; book = book; change = Stays }) new after
         → IsNext f e (λ g. StripeStands g stripe (record old { book = book })) → Behind f e (λ g. QueueStands g q)
         → IsNext f e (λ g. StripeStands g stripe new × QueueStands g after)
     stays_next e step value book new after left stands queue =

@@ -24,8 +24,8 @@ use Rattle.fetch_book.specs.Books.{BookData, is_full, next_ticket, asked, outcom
 use Rattle.vb_front.specs.declared.part.StripePart.{StripePart}
 use Rattle.vb_front.specs.declared.step.Step.{Step}
 use Rattle.vb_front.specs.declared.step.Step.TheVariants as steps
-use Rattle.vb_front.specs.declared.wait.Waited.{Waited}
-use Rattle.vb_front.specs.declared.wait.Waited.TheVariants as waits
+use Rattle.vb_front.specs.declared.wait.Meaning.{Meaning}
+use Rattle.vb_front.specs.declared.wait.Meaning.TheVariants as waits
 use Rattle.vb_front.specs.Stands.{StripeStands}
 use Rattle.vb_front.specs.Priors.{event_of, IsNext}
 use Rattle.hold_stage.specs.Priors.{PriorsStand}
@@ -49,7 +49,7 @@ abbrev pub read_asks : StripePart → BookData → List ℕ → Read
 read_asks part book key = record { step = ask_step book; value = []; part = record part { book = ask_book book key } }
 
 -- it needs what isn't in memory
-abbrev pub read_waits : StripePart → Option Ticket → List ℕ → Waited → Read
+abbrev pub read_waits : StripePart → Option Ticket → List ℕ → Meaning → Read
 read_waits part prior key (waits.Waits ticket) = record { step = steps.Fetch ticket; value = []; part = part }
 read_waits part prior key waits.Asks = read_asks part (release part.book prior) key
 read_waits part prior key waits.Absent = read_done part prior (answer_get None)
@@ -97,7 +97,7 @@ pub record NeedsAway (part : StripePart) (key : List ℕ) : Type 0 where
   pub away : IsAwayFrom (node_at part.table.slots key) part.table.eviction
 
 -- the call has a place at this ticket, with this outcome
-pub record HasPlace (book : BookData) (prior : Option Ticket) (ticket : Ticket) (outcome : Outcome) : Type 0 where
+pub record HasPlaceWith (book : BookData) (prior : Option Ticket) (ticket : Ticket) (outcome : Outcome) : Type 0 where
   pub prior_is : prior ≡ Some ticket
   pub outcome_is : outcome_of (place_at book.places ticket) ≡ Some outcome
 
@@ -119,11 +119,11 @@ pub record IsDone (old : StripePart) (key : List ℕ) (prior : Option Ticket) : 
 pub record IsFailed (old : StripePart) (key : List ℕ) (prior : Option Ticket) (ticket : Ticket) : Type 0 where
   pub needs : NeedsAway old key
   pub fault : ℕ
-  pub place : HasPlace old.book prior ticket (outcomes.Failed fault)
+  pub place : HasPlaceWith old.book prior ticket (outcomes.Failed fault)
 
 pub record IsWithoutMemory (old : StripePart) (key : List ℕ) (prior : Option Ticket) (ticket : Ticket) : Type 0 where
   pub needs : NeedsAway old key
-  pub place : HasPlace old.book prior ticket outcomes.NoMemory
+  pub place : HasPlaceWith old.book prior ticket outcomes.NoMemory
 
 pub record IsWithoutRoom (old : StripePart) (key : List ℕ) (prior : Option Ticket) : Type 0 where
   pub needs : NeedsAway old key
@@ -134,7 +134,7 @@ pub record IsWithoutRoom (old : StripePart) (key : List ℕ) (prior : Option Tic
 -- a place that waits is answered again
 pub record WaitsOn (old : StripePart) (key : List ℕ) (prior : Option Ticket) (ticket : Ticket) (new : BookData) : Type 0 where
   pub needs : NeedsAway old key
-  pub place : HasPlace old.book prior ticket outcomes.Waiting
+  pub place : HasPlaceWith old.book prior ticket outcomes.Waiting
   pub book : new ≡ old.book
 
 -- The call asks at the next ticket, where a place is free once its own is.
@@ -152,14 +152,14 @@ pub record CannotAsk (old : StripePart) (key : List ℕ) (prior : Option Ticket)
   pub full : is_full (release old.book prior) ≡ true
 
 -- When a Get comes to what.
-abbrev pub ComesTo : StripePart → List ℕ → Option Ticket → Step → BookData → Type 0
-ComesTo old key prior (steps.Done reply) new = IsDone old key prior
-ComesTo old key prior (steps.Refused causes.Warming) new = old.table.opened ≡ false
-ComesTo old key prior (steps.Refused causes.Quota) new = IsWithoutRoom old key prior
-ComesTo old key prior (steps.Refused (causes.Store ticket)) new = IsFailed old key prior ticket
-ComesTo old key prior (steps.Refused (causes.Memory ticket)) new = IsWithoutMemory old key prior ticket
-ComesTo old key prior (steps.Fetch ticket) new = WaitsOn old key prior ticket new ⊎ AsksAnew old key prior ticket new
-ComesTo old key prior steps.FetchFull new = CannotAsk old key prior
+abbrev pub ReadComesTo : StripePart → List ℕ → Option Ticket → Step → BookData → Type 0
+ReadComesTo old key prior (steps.Done reply) new = IsDone old key prior
+ReadComesTo old key prior (steps.Refused causes.Warming) new = old.table.opened ≡ false
+ReadComesTo old key prior (steps.Refused causes.Quota) new = IsWithoutRoom old key prior
+ReadComesTo old key prior (steps.Refused (causes.Store ticket)) new = IsFailed old key prior ticket
+ReadComesTo old key prior (steps.Refused (causes.Memory ticket)) new = IsWithoutMemory old key prior ticket
+ReadComesTo old key prior (steps.Fetch ticket) new = WaitsOn old key prior ticket new ⊎ AsksAnew old key prior ticket new
+ReadComesTo old key prior steps.FetchFull new = CannotAsk old key prior
 
 -- All but one that waits frees its old place.
 abbrev pub IsFreed : StripePart → Option Ticket → Step → BookData → Type 0
@@ -171,7 +171,7 @@ IsFreed old prior steps.FetchFull new = new ≡ release old.book prior
 -- The condition of the step to which a Get comes holds. No two of the conditions meet (`Ways`), so it comes to each step exactly
 -- where the step's own condition holds.
 pub record ReadIsExact (old : StripePart) (key : List ℕ) (prior : Option Ticket) (r : Read) : Type 0 where
-  pub comes : ComesTo old key prior r.step r.part.book
+  pub comes : ReadComesTo old key prior r.step r.part.book
   pub freed : IsFreed old prior r.step r.part.book
 
 -- Where documents are known, a Get that is answered had room. So where there is none it isn't answered, and it is refused for

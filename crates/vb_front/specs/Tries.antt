@@ -227,18 +227,18 @@ passed_on true stripe (tries.Fetch ticket) passed = with_point (InStripe stripe)
 passed_on true stripe (tries.FetchFull full) passed = with_point (InStripe stripe) passed
 
 -- what a call of this kind came to on its parts as they were taken
-abbrev pub Comes : Kind → FrontData → FrontData → (PartName → Bool) → ℕ → Bool → ℕ → Option Ticket → CallData → ℕ → List ℕ → Step → Type 0
-Comes kinds.Read f g held caller desk stripe prior call now value step = Gets f g held caller desk stripe prior call now value step
-Comes kinds.Write f g held caller desk stripe prior call now value step = Writes f g held caller desk stripe prior call now value step
-Comes kinds.Control f g held caller desk stripe prior call now value step = Controls f g held caller desk f.id call now value step
-Comes kinds.Change f g held caller desk stripe prior call now value step = ⊥
+abbrev pub CameTo : Kind → FrontData → FrontData → (PartName → Bool) → ℕ → Bool → ℕ → Option Ticket → CallData → ℕ → List ℕ → Step → Type 0
+CameTo kinds.Read f g held caller desk stripe prior call now value step = Gets f g held caller desk stripe prior call now value step
+CameTo kinds.Write f g held caller desk stripe prior call now value step = Writes f g held caller desk stripe prior call now value step
+CameTo kinds.Control f g held caller desk stripe prior call now value step = Controls f g held caller desk f.id call now value step
+CameTo kinds.Change f g held caller desk stripe prior call now value step = ⊥
 
 -- and where it is known what these were, what it came to and left
-abbrev pub ComesFrom : Kind → FrontData → ℕ → (PartName → Option Part) → (PartName → Option Part) → Option Ticket → CallData → ℕ → List ℕ → Step → Type 0
-ComesFrom kinds.Read f stripe old new prior call now value step = GetsFrom f stripe (old (names.Stripe stripe)) (new (names.Stripe stripe)) prior (key_in call) now value step
-ComesFrom kinds.Write f stripe old new prior call now value step = WritesFrom f stripe (old (names.Stripe stripe)) (new (names.Stripe stripe)) (old names.Queue) (new names.Queue) prior call now value step
-ComesFrom kinds.Control f stripe old new prior call now value step = ControlsFrom f (old names.Queue) (new names.Queue) f.id call value step
-ComesFrom kinds.Change f stripe old new prior call now value step = ⊥
+abbrev pub CameFrom : Kind → FrontData → ℕ → (PartName → Option Part) → (PartName → Option Part) → Option Ticket → CallData → ℕ → List ℕ → Step → Type 0
+CameFrom kinds.Read f stripe old new prior call now value step = GetsFrom f stripe (old (names.Stripe stripe)) (new (names.Stripe stripe)) prior (key_in call) now value step
+CameFrom kinds.Write f stripe old new prior call now value step = WritesFrom f stripe (old (names.Stripe stripe)) (new (names.Stripe stripe)) (old names.Queue) (new names.Queue) prior call now value step
+CameFrom kinds.Control f stripe old new prior call now value step = ControlsFrom f (old names.Queue) (new names.Queue) f.id call value step
+CameFrom kinds.Change f stripe old new prior call now value step = ⊥
 
 -- What is true of a call that was tried at a stage.
 -- `came`, `stripe`, `here`, `is`: what it came to, on a key of this stripe where it has a key, is what is answered;
@@ -260,9 +260,9 @@ pub record Tries {A F : Type 0} (front : A → FrontData) (holds : A → PartNam
   pub room : LeavesRoom (covers old) (covers new) (event_by (number old) call now prior value came)
   pub found : MatchResult came (λ _. losses new ≡ losses old) (λ b. (touches_call (front old).config call b.part ≡ true) × Rose (losses old) (losses new))
   pub elsewhere : IfErr came (λ b. FoundElsewhere front holds lent fixed number is_desk is_telling is_elsewhere (kind_of call) stripe old b.part)
-  pub comes : IfOk came (Comes (kind_of call) (front old) (front new) (holds old) (number old) (is_desk old) stripe prior call now value)
+  pub comes : IfOk came (CameTo (kind_of call) (front old) (front new) (holds old) (number old) (is_desk old) stripe prior call now value)
   pub bare : IfOk came (λ step. IsValueOf step value)
   pub short : IfOk came (λ _. length value ≤ max_value)
   pub alone : is_telling old ≡ true → front new ≡ with_noted (front old) (event_by (number old) call now prior value came)
-  pub becomes : is_telling old ≡ true → MatchResult came (ComesFrom (kind_of call) (front old) stripe (tells old) (tells new) prior call now value) (λ b. IsOut (front old).config (kind_of call) stripe b.part (tells old) (tells new))
+  pub becomes : is_telling old ≡ true → MatchResult came (CameFrom (kind_of call) (front old) stripe (tells old) (tells new) prior call now value) (λ b. IsOut (front old).config (kind_of call) stripe b.part (tells old) (tells new))
   pub kept : is_telling old ≡ true → KeptBut (front old).config (touches_call (front old).config call) (tells old) (tells new)

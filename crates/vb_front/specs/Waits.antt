@@ -13,8 +13,8 @@ use Rattle.fetch_book.specs.Places.{place_at, released}
 use Rattle.fetch_book.specs.Books.{BookData, is_full, next_ticket, asked, outcome_of}
 use Rattle.vb_front.specs.declared.step.Step.{Step}
 use Rattle.vb_front.specs.declared.step.Step.TheVariants.{Fetch, FetchFull}
-use Rattle.vb_front.specs.declared.wait.Waited.{Waited}
-use Rattle.vb_front.specs.declared.wait.Waited.TheVariants.{Waits, Asks, Absent, Refused}
+use Rattle.vb_front.specs.declared.wait.Meaning.{Meaning}
+use Rattle.vb_front.specs.declared.wait.Meaning.TheVariants.{Waits, Asks, Absent, Refused}
 
 -- What memory has of a document: all that a call needs (of a key that has none `Known None`), or not all.
 pub data Memory : Type 0 where
@@ -45,7 +45,7 @@ prior_outcome book (Some ticket) = outcome_of (place_at book.places ticket)
 
 -- A place whose document was put back counts as gone, since the call needs what isn't in memory again. So does one whose
 -- document had no room and has room now.
-abbrev pub waited_at : StripeData → List ℕ → Ticket → Outcome → Waited
+abbrev pub waited_at : StripeData → List ℕ → Ticket → Outcome → Meaning
 waited_at s key ticket outcomes.Waiting = Waits ticket
 waited_at s key ticket outcomes.Merged = Asks
 waited_at s key ticket outcomes.Absent = Absent
@@ -53,12 +53,12 @@ waited_at s key ticket (outcomes.Failed fault) = Refused (causes.Store ticket)
 waited_at s key ticket outcomes.NoMemory = Refused (causes.Memory ticket)
 waited_at s key ticket (outcomes.NoRoom blocks) = if has_no_room s key blocks then Refused causes.Quota else Asks
 
-abbrev pub waited_for : StripeData → List ℕ → Option Ticket → Option Outcome → Waited
+abbrev pub waited_for : StripeData → List ℕ → Option Ticket → Option Outcome → Meaning
 waited_for s key None outcome = Asks
 waited_for s key (Some ticket) None = Asks
 waited_for s key (Some ticket) (Some outcome) = waited_at s key ticket outcome
 
-abbrev pub waited : StripeData → BookData → List ℕ → Option Ticket → Waited
+abbrev pub waited : StripeData → BookData → List ℕ → Option Ticket → Meaning
 waited s book key prior = waited_for s key prior (prior_outcome book prior)
 
 -- the place of the call is free again

@@ -15,9 +15,9 @@ use Rattle.vb_front.specs.declared.step.Step.{Step}
 use Rattle.vb_front.specs.declared.step.Step.TheVariants as steps
 use Rattle.vb_front.specs.Stands.{StripeStands, QueueStands}
 use Rattle.hold_stage.specs.Priors.{PriorsStand}
-use Rattle.vb_front.specs.Reads.{read_step, ComesTo, WaitsOn, AsksAnew}
+use Rattle.vb_front.specs.Reads.{read_step, ReadComesTo, WaitsOn, AsksAnew}
 use Rattle.vb_front.specs.Writes.{Write, write_step, WriteIsLegal, AnsweredHasRoom}
-use Rattle.vb_front.specs.WriteSteps.{LacksDoc, WriteComesTo, WriteIsExact, LacksRoom, IsWithoutRoomFor, Waits, Asks}
+use Rattle.vb_front.specs.WriteSteps.{LacksDoc, WriteComesTo, WriteIsExact, PutsWithoutRoom, IsWithoutRoomFor, Waits, Asks}
 
 -- which step it is, with its cause and its ticket, and none where it is answered, whatever the reply
 abbrev pub way_of : Step → Option Step
@@ -29,12 +29,12 @@ way_of steps.FetchFull = Some steps.FetchFull
 -- Two steps of which each has its condition for a Get are the same, but for the reply of an answer.
 abbrev pub ReadStepsAreApart : Type 0
 ReadStepsAreApart = (old : StripePart) (key : List ℕ) (prior : Option Ticket) (one other : Step) (book left : BookData)
-    → ComesTo old key prior one book → ComesTo old key prior other left → way_of one ≡ way_of other
+    → ReadComesTo old key prior one book → ReadComesTo old key prior other left → way_of one ≡ way_of other
 
 -- So a Get comes to the step whose condition holds.
 abbrev pub ReadFollowsItsCondition : Type 0
 ReadFollowsItsCondition = (old : StripePart) (key : List ℕ) (prior : Option Ticket) (now : ℕ) (step : Step) (book : BookData)
-    → ComesTo old key prior step book → way_of (read_step old prior key now).step ≡ way_of step
+    → ReadComesTo old key prior step book → way_of (read_step old prior key now).step ≡ way_of step
 
 -- Nor does one ask anew where it waits on.
 abbrev pub WaitingReadsAskNothing : Type 0
@@ -59,7 +59,7 @@ WaitingWritesAskNothing = (part : StripePart) (call : CallData) (key : List ℕ)
 -- A call lacks room for one reason: for the document that it needs, or for the one that it puts.
 abbrev pub RoomLacksForOne : Type 0
 RoomLacksForOne = (part : StripePart) (q : QueueData) (call : CallData) (key : List ℕ) (now : ℕ) (prior : Option Ticket)
-    → IsWithoutRoomFor part q call key prior → LacksRoom part q call key now prior → ⊥
+    → IsWithoutRoomFor part q call key prior → PutsWithoutRoom part q call key now prior → ⊥
 
 -- Of a call that lacks nothing, want of room comes exactly where the history has none, where documents are known. That is so of
 -- whatever has the clauses of `write`. A call that lacks what it needs comes to Quota only there, and isn't answered there.
@@ -70,4 +70,4 @@ QuotaIsWantOfRoom = (part new : StripePart) (q after : QueueData) (call : CallDa
     → StripeStands f stripe part → QueueStands f q → PriorsStand f caller call prior → (world_of f).told ≡ true
     → IsServing (world_of f) → key_of call ≡ Some key → (LacksDoc part call key → ⊥)
     → (w.step ≡ steps.Refused causes.Quota → is_short f key call now ≡ true)
-        × (is_short f key call now ≡ true → w.step ≡ steps.Refused causes.Quota)
+    × (is_short f key call now ≡ true → w.step ≡ steps.Refused causes.Quota)

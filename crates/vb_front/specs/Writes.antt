@@ -31,8 +31,8 @@ use Rattle.ckpt_manager.specs.Queue.{queued, kept_with, Expelled, NoneTooMany}
 use Rattle.vb_front.specs.declared.part.StripePart.{StripePart}
 use Rattle.vb_front.specs.declared.step.Step.{Step}
 use Rattle.vb_front.specs.declared.step.Step.TheVariants as steps
-use Rattle.vb_front.specs.declared.wait.Waited.{Waited}
-use Rattle.vb_front.specs.declared.wait.Waited.TheVariants as waits
+use Rattle.vb_front.specs.declared.wait.Meaning.{Meaning}
+use Rattle.vb_front.specs.declared.wait.Meaning.TheVariants as waits
 use Rattle.vb_front.specs.Stands.{StripeStands, QueueStands}
 use Rattle.vb_front.specs.Priors.{event_of, IsNext}
 use Rattle.hold_stage.specs.Priors.{PriorsStand}
@@ -93,17 +93,17 @@ row_of w (Touch key expiration fetch) now live = answer_touch fetch w key expira
 row_of w call now live = answer_row w call now
 
 -- What becomes of the documents: nothing; room is made for a value of this length under a key, and nothing put; a document is put.
-pub data Act : Type 0 where
-  Stays : Act
-  Clears : (key : List ℕ) → (len : ℕ) → Act
-  Places : (key : List ℕ) → (doc : Doc) → Act
+pub data DocumentChange : Type 0 where
+  Stays : DocumentChange
+  Clears : (key : List ℕ) → (len : ℕ) → DocumentChange
+  Places : (key : List ℕ) → (doc : Doc) → DocumentChange
 
 -- what it comes to, the value of its answer, the places that it leaves, and what becomes of the documents
 pub record Write : Type 0 where
   pub step : Step
   pub value : List ℕ
   pub book : BookData
-  pub act : Act
+  pub change : DocumentChange
 
 -- the places of a key go
 abbrev pub forget : BookData → List ℕ → BookData
@@ -111,10 +111,10 @@ forget book key = record book { places = forgotten book.places key }
 
 -- answered without an effect, or refused; its place is free
 abbrev pub write_done : StripePart → Option Ticket → Answer → Write
-write_done part prior a = record { step = steps.Done a.reply; value = a.value; book = release part.book prior; act = Stays }
+write_done part prior a = record { step = steps.Done a.reply; value = a.value; book = release part.book prior; change = Stays }
 
-abbrev pub write_refused : StripePart → Option Ticket → Cause → Act → Write
-write_refused part prior cause act = record { step = steps.Refused cause; value = []; book = release part.book prior; act = act }
+abbrev pub write_refused : StripePart → Option Ticket → Cause → DocumentChange → Write
+write_refused part prior cause change = record { step = steps.Refused cause; value = []; book = release part.book prior; change = change }
 
 -- a document with a value of this length has no room in the stripe, or else in the queue
 abbrev pub lacks_room : StripeData → QueueData → List ℕ → ℕ → Bool
@@ -137,7 +137,7 @@ write_put part prior a key doc false = record {
   step = steps.Done a.reply;
   value = a.value;
   book = forget (release part.book prior) key;
-  act = Places key doc;
+  change = Places key doc;
 }
 
 abbrev pub write_effect : StripePart → QueueData → Option Ticket → Answer → Effect → Write
@@ -158,13 +158,13 @@ write_crowded part prior None = write_refused part prior causes.Quota Stays
 write_crowded part prior (Some status) = write_done part prior (refused status)
 
 -- It needs what isn't in memory. Where the store has no document it is answered over none.
-abbrev pub write_waits : StripePart → QueueData → Option Ticket → CallData → List ℕ → ℕ → Waited → Write
-write_waits part q prior call key now (waits.Waits ticket) = record { step = steps.Fetch ticket; value = []; book = part.book; act = Stays }
+abbrev pub write_waits : StripePart → QueueData → Option Ticket → CallData → List ℕ → ℕ → Meaning → Write
+write_waits part q prior call key now (waits.Waits ticket) = record { step = steps.Fetch ticket; value = []; book = part.book; change = Stays }
 write_waits part q prior call key now waits.Asks = record {
   step = ask_step (release part.book prior);
   value = [];
   book = ask_book (release part.book prior) key;
-  act = Stays;
+  change = Stays;
 }
 write_waits part q prior call key now waits.Absent = write_over part q prior call now None
 write_waits part q prior call key now (waits.Refused causes.Quota) = write_crowded part prior (own_refusal (shown_world part.table q).fit call)
@@ -190,15 +190,15 @@ abbrev pub node_of : List ℕ → Doc → NodeData
 node_of key doc = record { key = key; meta = meta_of doc; value = Some doc.value; age = 0 }
 
 -- The memory that is left: as it was, with documents of other keys ejected, or with the document put where that made room.
-abbrev pub SlotsLeft : StripeData → Act → StripeData → Type 0
+abbrev pub SlotsLeft : StripeData → DocumentChange → StripeData → Type 0
 SlotsLeft s Stays new = new.slots ≡ s.slots
 SlotsLeft s (Clears key len) new = EjectsOthers s.eviction s.mark key (blocks (length key) + blocks len) s.slots new.slots
 SlotsLeft s (Places key doc) new = Restores s.eviction s.mark (doc_blocks key doc) (node_of key doc) s.slots new.slots
 
 -- all else of the stripe is as it was
-pub record LeavesSlots (s : StripeData) (act : Act) (new : StripeData) : Type 0 where
+pub record LeavesSlots (s : StripeData) (change : DocumentChange) (new : StripeData) : Type 0 where
   pub rest : new ≡ record s { slots = new.slots }
-  pub slots : SlotsLeft s act new
+  pub slots : SlotsLeft s change new
 
 -- Some items went that every cursor has passed, no more than had to, and then the document was queued.
 pub record Queues (old : QueueData) (key : List ℕ) (doc : Doc) (new : QueueData) : Type 0 where
@@ -213,7 +213,7 @@ pub record Vacates (s : StripeData) (old : QueueData) (key : List ℕ) (len : �
   pub least : NoneTooMany old new key len
   pub behind : has_no_room s key (blocks (length key) + blocks len) ≡ true → new ≡ old
 
-abbrev pub QueueLeft : StripeData → QueueData → Act → QueueData → Type 0
+abbrev pub QueueLeft : StripeData → QueueData → DocumentChange → QueueData → Type 0
 QueueLeft s q Stays new = new ≡ q
 QueueLeft s q (Clears key len) new = Vacates s q key len new
 QueueLeft s q (Places key doc) new = Queues q key doc new
@@ -221,11 +221,11 @@ QueueLeft s q (Places key doc) new = Queues q key doc new
 -- What is left of the parts.
 pub record Leaves (old : StripePart) (q : QueueData) (w : Write) (new : StripePart) (after : QueueData) : Type 0 where
   pub book : new.book ≡ w.book
-  pub table : LeavesSlots old.table w.act new.table
-  pub queue : QueueLeft old.table q w.act after
+  pub table : LeavesSlots old.table w.change new.table
+  pub queue : QueueLeft old.table q w.change after
 
--- What code does comes to this.
-pub record Comes (old : StripePart) (q : QueueData) (w : Write) (came : Step) (new : StripePart) (after : QueueData) : Type 0 where
+-- What code wrote is this.
+pub record Wrote (old : StripePart) (q : QueueData) (w : Write) (came : Step) (new : StripePart) (after : QueueData) : Type 0 where
   pub step : came ≡ w.step
   pub left : Leaves old q w new after
 

@@ -16,7 +16,7 @@ ghost use Rattle.vb_front.specs.Reads.{ReadIsExact, AnsweredGetHasRoom};
 
 use crate::part::StripePart;
 use crate::step::Step;
-use crate::wait::{self, Waited};
+use crate::wait::{self, Meaning};
 use ep_model::status::{KEY_NOT_FOUND, SUCCESS};
 use ep_model::{Call, Cause, Eviction, Meta, Out, Reply, Ticket, rules};
 use hash_stripe::Found;
@@ -50,10 +50,10 @@ fn read_away(part: &mut StripePart, key: &[u8], prior: Option<Ticket>) -> Step
         (waited part.old.table part.old.book key.now prior)).value }
 {
     match wait::prior_means(&part.table, &part.book, key, prior) {
-        Waited::Waits(ticket) => Step::Fetch(ticket),
-        Waited::Asks => wait::ask(&mut part.book, key, prior),
-        Waited::Absent => answer(part, prior, Reply::refusal(KEY_NOT_FOUND)),
-        Waited::Refused(cause) => refuse(part, prior, cause),
+        Meaning::Waits(ticket) => Step::Fetch(ticket),
+        Meaning::Asks => wait::ask(&mut part.book, key, prior),
+        Meaning::Absent => answer(part, prior, Reply::refusal(KEY_NOT_FOUND)),
+        Meaning::Refused(cause) => refuse(part, prior, cause),
     }
 }
 

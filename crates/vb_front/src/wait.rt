@@ -8,9 +8,9 @@ use ep_model::{Cause, Ticket};
 use fetch_book::{Book, Outcome};
 use hash_stripe::Stripe;
 
-/// What became of a call that needs what isn't in memory.
+/// What its own place means to a call that needs what isn't in memory.
 #[derive(Clone, Copy)]
-pub(crate) enum Waited {
+pub(crate) enum Meaning {
     /// Its place still waits.
     Waits(Ticket),
     /// It has no place that serves it, and asks for one.
@@ -21,34 +21,34 @@ pub(crate) enum Waited {
 }
 
 /// What an outcome of the call's own place means to the call.
-fn outcome_means(table: &Stripe, key: &[u8], ticket: Ticket, outcome: Outcome) -> Waited
+fn outcome_means(table: &Stripe, key: &[u8], ticket: Ticket, outcome: Outcome) -> Meaning
     ensures { result ≡ waited_at table.now key.now ticket outcome }
 {
     match outcome {
-        Outcome::Waiting => Waited::Waits(ticket),
-        Outcome::Merged => Waited::Asks,
-        Outcome::Absent => Waited::Absent,
-        Outcome::Failed(_) => Waited::Refused(Cause::Store(ticket)),
-        Outcome::NoMemory => Waited::Refused(Cause::Memory(ticket)),
+        Outcome::Waiting => Meaning::Waits(ticket),
+        Outcome::Merged => Meaning::Asks,
+        Outcome::Absent => Meaning::Absent,
+        Outcome::Failed(_) => Meaning::Refused(Cause::Store(ticket)),
+        Outcome::NoMemory => Meaning::Refused(Cause::Memory(ticket)),
         Outcome::NoRoom { blocks } => {
             if u64::from(table.blocks()) < u64::from(table.pinned(key)) + u64::from(blocks) {
-                Waited::Refused(Cause::Quota)
+                Meaning::Refused(Cause::Quota)
             } else {
-                Waited::Asks
+                Meaning::Asks
             }
         }
     }
 }
 
 /// What became of the read that the call asked for before, if it did.
-pub(crate) fn prior_means(table: &Stripe, book: &Book, key: &[u8], prior: Option<Ticket>) -> Waited
+pub(crate) fn prior_means(table: &Stripe, book: &Book, key: &[u8], prior: Option<Ticket>) -> Meaning
     ensures { result ≡ waited table.now book.now key.now prior }
 {
     let Some(ticket) = prior else {
-        return Waited::Asks;
+        return Meaning::Asks;
     };
     match book.outcome(ticket) {
-        None => Waited::Asks,
+        None => Meaning::Asks,
         Some(outcome) => outcome_means(table, key, ticket, outcome),
     }
 }

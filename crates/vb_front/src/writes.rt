@@ -21,12 +21,12 @@ ghost use Rattle.vb_front.specs.Writes.{seen_meta, shown_doc, text_at, is_away, 
 ghost use Rattle.vb_front.specs.Writes.{write_over, write_waits, write_found, write_step};
 ghost use Rattle.vb_front.specs.Reads.{KeepsStripe};
 ghost use Rattle.vb_front.specs.WriteSteps.{WriteIsExact};
-ghost use Rattle.vb_front.specs.Writes.{Comes, Leaves, WriteIsLegal, AnsweredHasRoom};
+ghost use Rattle.vb_front.specs.Writes.{Wrote, Leaves, WriteIsLegal, AnsweredHasRoom};
 
 use crate::get::{answer, refuse};
 use crate::part::StripePart;
 use crate::step::Step;
-use crate::wait::{self, Waited};
+use crate::wait::{self, Meaning};
 use ckpt_manager::Queue;
 use ep_model::{Call, Cause, Eviction, Meta, Out, Reply, Ticket, rules};
 use hash_stripe::{Found, Stripe};
@@ -122,7 +122,7 @@ fn write_over(
         HasText seen (node_at part.old.table.slots (key_in (call_data call.now))) }
     requires room { max_value ≤ value.old.spare }
     requires empty { value.old.bytes ≡ [] }
-    ensures comes { Comes part.old queue.old (write_over part.old queue.old prior (call_data call.now) now
+    ensures comes { Wrote part.old queue.old (write_over part.old queue.old prior (call_data call.now) now
         (shown_doc (text_at part.old.table (key_in (call_data call.now))) seen)) result part.new queue.new }
     ensures value { value.new.bytes ≡ (write_over part.old queue.old prior (call_data call.now) now
         (shown_doc (text_at part.old.table (key_in (call_data call.now))) seen)).value }
@@ -208,7 +208,7 @@ fn write_away(
     requires moment { IsMoment now }
     requires room { max_value ≤ value.old.spare }
     requires empty { value.old.bytes ≡ [] }
-    ensures comes { Comes part.old queue.old (write_waits part.old queue.old prior (call_data call.now) key.now now
+    ensures comes { Wrote part.old queue.old (write_waits part.old queue.old prior (call_data call.now) key.now now
         (waited part.old.table part.old.book key.now prior)) result part.new queue.new }
     ensures value { value.new.bytes ≡ (write_waits part.old queue.old prior (call_data call.now) key.now now
         (waited part.old.table part.old.book key.now prior)).value }
@@ -217,17 +217,17 @@ fn write_away(
         + length value.old.bytes }
 {
     match wait::prior_means(&part.table, &part.book, key, prior) {
-        Waited::Waits(ticket) => Step::Fetch(ticket),
-        Waited::Asks => wait::ask(&mut part.book, key, prior),
-        Waited::Absent => write_over(part, queue, call, None, now, prior, value),
-        Waited::Refused(Cause::Quota) => match rules::own_refusal(
+        Meaning::Waits(ticket) => Step::Fetch(ticket),
+        Meaning::Asks => wait::ask(&mut part.book, key, prior),
+        Meaning::Absent => write_over(part, queue, call, None, now, prior, value),
+        Meaning::Refused(Cause::Quota) => match rules::own_refusal(
             puts::fit(&part.table, queue),
             call,
         ) {
             None => refuse(part, prior, Cause::Quota),
             Some(status) => answer(part, prior, Reply::refusal(status)),
         },
-        Waited::Refused(cause) => refuse(part, prior, cause),
+        Meaning::Refused(cause) => refuse(part, prior, cause),
     }
 }
 
@@ -247,7 +247,7 @@ fn write_key(
     requires moment { IsMoment now }
     requires room { max_value ≤ value.old.spare }
     requires empty { value.old.bytes ≡ [] }
-    ensures comes { Comes part.old queue.old (write_found part.old queue.old prior (call_data call.now)
+    ensures comes { Wrote part.old queue.old (write_found part.old queue.old prior (call_data call.now)
         (key_in (call_data call.now)) now (found (node_at part.old.table.slots (key_in (call_data call.now)))))
         result part.new queue.new }
     ensures value { value.new.bytes ≡ (write_found part.old queue.old prior (call_data call.now)

@@ -8,7 +8,7 @@ ghost use Rattle.ep_model.specs.Decimal.{number_of};
 ghost use Rattle.ep_model.specs.Answer.{answer_count, counts};
 ghost use Rattle.hash_stripe.specs.Nodes.{node_at};
 ghost use Rattle.hash_stripe.specs.Stripes.{resident_value};
-ghost use Rattle.vb_front.specs.Writes.{shown_world, shown_doc, text_at, HasText, write_answer, Comes};
+ghost use Rattle.vb_front.specs.Writes.{shown_world, shown_doc, text_at, HasText, write_answer, Wrote};
 
 use super::puts::{Draft, put, step_of};
 use crate::get::answer;
@@ -53,7 +53,7 @@ fn put_number(
     requires moment { IsMoment now }
     requires room { max_value ≤ value.old.spare }
     requires empty { value.old.bytes ≡ [] }
-    ensures comes { Comes part.old queue.old
+    ensures comes { Wrote part.old queue.old
         (write_answer part.old queue.old prior (counts (shown_world part.old.table queue.old) key.now number flags
         expiry now))
         result part.new queue.new }
@@ -101,7 +101,7 @@ pub(crate) fn count(
     requires there { HasText live (node_at part.old.table.slots key.now) }
     requires room { max_value ≤ value.old.spare }
     requires empty { value.old.bytes ≡ [] }
-    ensures comes { Comes part.old queue.old
+    ensures comes { Wrote part.old queue.old
         (write_answer part.old queue.old prior (answer_count down (shown_world part.old.table queue.old) key.now
         delta initial expiration cas now (shown_doc (text_at part.old.table key.now) live)))
         result part.new queue.new }

@@ -6,7 +6,7 @@ ghost use Rattle.ep_model.specs.Stripes.{stripe_of};
 ghost use Rattle.ep_model.specs.Answer.{answer_join, joined};
 ghost use Rattle.hash_stripe.specs.Nodes.{node_at};
 ghost use Rattle.hash_stripe.specs.Stripes.{resident_value};
-ghost use Rattle.vb_front.specs.Writes.{shown_world, shown_doc, text_at, HasText, write_answer, Comes};
+ghost use Rattle.vb_front.specs.Writes.{shown_world, shown_doc, text_at, HasText, write_answer, Wrote};
 
 use super::puts::{Draft, fit, put, step_of};
 use crate::get::answer;
@@ -55,7 +55,7 @@ pub(crate) fn join(
     requires there { HasText live (node_at part.old.table.slots key.now) }
     requires room { max_value ≤ value.old.spare }
     requires empty { value.old.bytes ≡ [] }
-    ensures comes { Comes part.old queue.old
+    ensures comes { Wrote part.old queue.old
         (write_answer part.old queue.old prior (answer_join front (shown_world part.old.table queue.old) key.now
         piece.now cas now (shown_doc (text_at part.old.table key.now) live)))
         result part.new queue.new }

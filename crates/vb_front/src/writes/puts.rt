@@ -9,7 +9,7 @@ ghost use Rattle.hash_stripe.specs.Nodes.{EjectsOthers, placed};
 ghost use Rattle.hash_stripe.specs.Stripes.{Fits};
 ghost use Rattle.ckpt_manager.specs.Queue.{CanHold, Expelled, NoneTooMany, queued};
 ghost use Rattle.vb_front.specs.Waits.{release, has_no_room};
-ghost use Rattle.vb_front.specs.Writes.{shown_world, lacks_room, step_of, forget, write_answer, Comes};
+ghost use Rattle.vb_front.specs.Writes.{shown_world, lacks_room, step_of, forget, write_answer, Wrote};
 
 use crate::controls::newest;
 use crate::part::StripePart;
@@ -114,7 +114,7 @@ pub(crate) fn put(
     requires tombstone { draft.deleted ≡ true → text.now ≡ [] }
     requires number { number_refusal queue.old.high ≡ None }
     requires moment { IsMoment now }
-    ensures { (value : List ℕ) → Comes part.old queue.old
+    ensures { (value : List ℕ) → Wrote part.old queue.old
         (write_answer part.old queue.old prior (put_success (shown_world part.old.table queue.old) key.now
         (next_doc (shown_world part.old.table queue.old) text.now draft.flags draft.expiry draft.deleted now)
         shown value))

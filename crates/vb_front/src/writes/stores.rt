@@ -2,7 +2,7 @@
 ghost use Rattle.std.specs.Prelude.{◌≡◌, ◌≤◌, [], length};
 ghost use Rattle.ep_model.specs.Limits.{IsKey, IsMoment, IsValue};
 ghost use Rattle.ep_model.specs.Stripes.{stripe_of};
-ghost use Rattle.vb_front.specs.Writes.{shown_world, store_row, delete_row, write_answer, Comes};
+ghost use Rattle.vb_front.specs.Writes.{shown_world, store_row, delete_row, write_answer, Wrote};
 
 use super::puts::{Draft, fit, put, step_of};
 use crate::get::answer;
@@ -29,7 +29,7 @@ pub(crate) fn store(
     requires home { stripe_of key.now part.old.table.stripes ≡ part.old.table.index }
     requires text { IsValue text.now }
     requires moment { IsMoment now }
-    ensures comes { Comes part.old queue.old
+    ensures comes { Wrote part.old queue.old
         (write_answer part.old queue.old prior (store_row (shown_world part.old.table queue.old) kind
         key.now text.now flags expiration cas now current))
         result part.new queue.new }
@@ -63,7 +63,7 @@ pub(crate) fn delete(
     requires key { IsKey key.now }
     requires home { stripe_of key.now part.old.table.stripes ≡ part.old.table.index }
     requires moment { IsMoment now }
-    ensures comes { Comes part.old queue.old
+    ensures comes { Wrote part.old queue.old
         (write_answer part.old queue.old prior (delete_row (shown_world part.old.table queue.old) key.now cas now
         current))
         result part.new queue.new }

@@ -7,7 +7,7 @@ ghost use Rattle.hash_stripe.specs.Nodes.{node_at};
 ghost use Rattle.hash_stripe.specs.Stripes.{resident_value};
 ghost use Rattle.vb_front.specs.declared.step.Step.TheVariants as steps;
 ghost use Rattle.vb_front.specs.Waits.{release};
-ghost use Rattle.vb_front.specs.Writes.{shown_world, shown_doc, text_at, IsTextOf, HasText, step_of, value_if, write_answer, Comes};
+ghost use Rattle.vb_front.specs.Writes.{shown_world, shown_doc, text_at, IsTextOf, HasText, step_of, value_if, write_answer, Wrote};
 
 use super::puts::{Draft, put, step_of};
 use crate::get::answer;
@@ -94,7 +94,7 @@ pub(crate) fn touch(
     requires there { HasText live (node_at part.old.table.slots key.now) }
     requires room { max_value ≤ value.old.spare }
     requires empty { value.old.bytes ≡ [] }
-    ensures comes { Comes part.old queue.old
+    ensures comes { Wrote part.old queue.old
         (write_answer part.old queue.old prior (answer_touch fetch (shown_world part.old.table queue.old) key.now
         expiration now (shown_doc (text_at part.old.table key.now) live)))
         result part.new queue.new }

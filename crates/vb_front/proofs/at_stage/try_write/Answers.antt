@@ -136,7 +136,7 @@ returns-clause-becomes g c = λ told.
       queued = sym (t.ensures.tells told Queue refl) ∙ q.ensures.was_there telling;
       stands = (
         subst (λ (f : FrontData). StripeStands f c.args.stripe c.in-Ok.part) same
-        (u.ensures.kept (Stripe c.args.stripe) (parts.Stripe c.in-Ok.part) (taken_held (Stripe c.args.stripe) (g.S.Stage.holds s) (g.S.Stage.holds t.new.stage) c.in-Ok.ensures.held) c.in-Ok.ensures.taken.0),
+            (u.ensures.kept (Stripe c.args.stripe) (parts.Stripe c.in-Ok.part) (taken_held (Stripe c.args.stripe) (g.S.Stage.holds s) (g.S.Stage.holds t.new.stage) c.in-Ok.ensures.held) c.in-Ok.ensures.taken.0),
         subst (λ (f : FrontData). QueueStands f q.queue) same q.ensures.taken.0,
       );
       step_is = r.ensures.step;
