@@ -128,21 +128,23 @@ fn note_step<S: Stage<Part = Part>>(
 )
     requires within { IsWithin (call_data call.now) }
     requires short { length value.now ≤ max_value }
-    requires touched { (p : PartName) → touches_call (S.front stage.old).config (call_data call.now) p ≡ true
-        → S.holds stage.old p ≡ true }
-    requires may { IfSome (event_of (S.number stage.old) (call_data call.now) now prior step value.now)
-        (May (S.front stage.old)) }
+    requires touched { (p : PartName) → touches_call (S.front stage.old).config (call_data call.now)
+        p ≡ true → S.holds stage.old p ≡ true }
+    requires may { IfSome (event_of (S.number stage.old) (call_data call.now) now prior step
+        value.now) (May (S.front stage.old)) }
     requires legal { IsLegal (S.front stage.old) }
     requires room { HasRoom call_bytes (S.covers stage.old) }
     ensures stays { Stays S.lent S.fixed S.number S.is_desk S.is_telling stage.old stage.new }
-    ensures went { Went (S.front stage.old) (S.front stage.new) (S.holds stage.old) (S.number stage.old) (S.is_desk stage.old)
-        (event_of (S.number stage.old) (call_data call.now) now prior step value.now) }
+    ensures went { Went (S.front stage.old) (S.front stage.new) (S.holds stage.old)
+        (S.number stage.old) (S.is_desk stage.old) (event_of (S.number stage.old)
+        (call_data call.now) now prior step value.now) }
     ensures room { LeavesRoom (S.covers stage.old) (S.covers stage.new)
         (event_of (S.number stage.old) (call_data call.now) now prior step value.now) }
     ensures held { Same (S.holds stage.new) (S.holds stage.old) }
     ensures losses { S.losses stage.new ≡ S.losses stage.old }
-    ensures alone { S.is_telling stage.old ≡ true → S.front stage.new ≡ with_noted (S.front stage.old)
-        (event_of (S.number stage.old) (call_data call.now) now prior step value.now) }
+    ensures alone { S.is_telling stage.old ≡ true → S.front stage.new ≡ with_noted
+        (S.front stage.old) (event_of (S.number stage.old) (call_data call.now) now prior step
+        value.now) }
     ensures tells { S.is_telling stage.old ≡ true → (p : PartName) → S.tells stage.new p
         ≡ S.tells stage.old p }
 {
@@ -195,8 +197,9 @@ pub(crate) fn try_get<S: Stage<Part = Part>, G: Gate>(
         prior }
     requires value { max_value ≤ value.old.spare + length value.old.bytes }
     ensures stays { Stays S.lent S.fixed S.number S.is_desk S.is_telling stage.old stage.new }
-    ensures went { Went (S.front stage.old) (S.front stage.new) (S.holds stage.old) (S.number stage.old) (S.is_desk stage.old)
-        (event_by (S.number stage.old) (call_data call.now) now prior value.new.bytes result) }
+    ensures went { Went (S.front stage.old) (S.front stage.new) (S.holds stage.old)
+        (S.number stage.old) (S.is_desk stage.old) (event_by (S.number stage.old)
+        (call_data call.now) now prior value.new.bytes result) }
     ensures room { LeavesRoom (S.covers stage.old) (S.covers stage.new)
         (event_by (S.number stage.old) (call_data call.now) now prior value.new.bytes result) }
     ensures held { Same (S.holds stage.new) (S.holds stage.old) }
@@ -204,16 +207,20 @@ pub(crate) fn try_get<S: Stage<Part = Part>, G: Gate>(
         (λ b. (b.part ≡ Stripe stripe) × Rose (S.losses stage.old) (S.losses stage.new)) }
     ensures elsewhere { IfErr result (λ b. FoundElsewhere S.front S.holds S.lent S.fixed S.number
         S.is_desk S.is_telling S.elsewhere Read stripe stage.old b.part) }
-    ensures gets { IfOk result (Gets (S.front stage.old) (S.front stage.new) (S.holds stage.old) (S.number stage.old)
-        (S.is_desk stage.old) stripe prior (call_data call.now) now value.new.bytes) }
+    ensures gets { IfOk result (Gets (S.front stage.old) (S.front stage.new) (S.holds stage.old)
+        (S.number stage.old) (S.is_desk stage.old) stripe prior (call_data call.now) now
+        value.new.bytes) }
     ensures passed { G.passed gate.new ≡ passed_by stripe result (G.passed gate.old) }
-    ensures alone { S.is_telling stage.old ≡ true → S.front stage.new ≡ with_noted (S.front stage.old)
-        (event_by (S.number stage.old) (call_data call.now) now prior value.new.bytes result) }
-    ensures becomes { S.is_telling stage.old ≡ true → MatchResult result (GetsFrom (S.front stage.old) stripe
-        (S.tells stage.old (Stripe stripe)) (S.tells stage.new (Stripe stripe)) prior (key_in (call_data call.now)) now value.new.bytes)
-        (λ b. IsOut (S.front stage.old).config Read stripe b.part (S.tells stage.old) (S.tells stage.new)) }
-    ensures kept { S.is_telling stage.old ≡ true → KeptBut (S.front stage.old).config (is_stripe stripe) (S.tells stage.old)
-        (S.tells stage.new) }
+    ensures alone { S.is_telling stage.old ≡ true → S.front stage.new ≡ with_noted
+        (S.front stage.old) (event_by (S.number stage.old) (call_data call.now) now prior
+        value.new.bytes result) }
+    ensures becomes { S.is_telling stage.old ≡ true → MatchResult result (GetsFrom
+        (S.front stage.old) stripe (S.tells stage.old (Stripe stripe))
+        (S.tells stage.new (Stripe stripe)) prior (key_in (call_data call.now)) now value.new.bytes)
+        (λ b. IsOut (S.front stage.old).config Read stripe b.part (S.tells stage.old)
+        (S.tells stage.new)) }
+    ensures kept { S.is_telling stage.old ≡ true → KeptBut (S.front stage.old).config
+        (is_stripe stripe) (S.tells stage.old) (S.tells stage.new) }
     ensures bare { IfOk result (λ step. IsValueOf step value.new.bytes) }
     ensures short { IfOk result (λ _. length value.new.bytes ≤ max_value) }
     ensures same { IfErr result (λ _. value.new ≡ value.old) }
@@ -245,8 +252,9 @@ pub(crate) fn try_control<S: Stage<Part = Part>>(
     requires room { HasRoom call_bytes (S.covers stage.old) }
     requires value { max_value ≤ value.old.spare + length value.old.bytes }
     ensures stays { Stays S.lent S.fixed S.number S.is_desk S.is_telling stage.old stage.new }
-    ensures went { Went (S.front stage.old) (S.front stage.new) (S.holds stage.old) (S.number stage.old) (S.is_desk stage.old)
-        (event_by (S.number stage.old) (call_data call.now) now None value.new.bytes result) }
+    ensures went { Went (S.front stage.old) (S.front stage.new) (S.holds stage.old)
+        (S.number stage.old) (S.is_desk stage.old) (event_by (S.number stage.old)
+        (call_data call.now) now None value.new.bytes result) }
     ensures room { LeavesRoom (S.covers stage.old) (S.covers stage.new)
         (event_by (S.number stage.old) (call_data call.now) now None value.new.bytes result) }
     ensures held { Same (S.holds stage.new) (S.holds stage.old) }
@@ -254,15 +262,18 @@ pub(crate) fn try_control<S: Stage<Part = Part>>(
         (λ b. (b.part ≡ Queue) × Rose (S.losses stage.old) (S.losses stage.new)) }
     ensures elsewhere { IfErr result (λ b. FoundElsewhere S.front S.holds S.lent S.fixed S.number
         S.is_desk S.is_telling S.elsewhere Control 0 stage.old b.part) }
-    ensures controls { IfOk result (Controls (S.front stage.old) (S.front stage.new) (S.holds stage.old)
-        (S.number stage.old) (S.is_desk stage.old) vb (call_data call.now) now value.new.bytes) }
-    ensures alone { S.is_telling stage.old ≡ true → S.front stage.new ≡ with_noted (S.front stage.old)
-        (event_by (S.number stage.old) (call_data call.now) now None value.new.bytes result) }
-    ensures becomes { S.is_telling stage.old ≡ true → MatchResult result (ControlsFrom (S.front stage.old)
-        (S.tells stage.old Queue) (S.tells stage.new Queue) vb (call_data call.now) value.new.bytes)
-        (λ b. IsOut (S.front stage.old).config Control 0 b.part (S.tells stage.old) (S.tells stage.new)) }
-    ensures kept { S.is_telling stage.old ≡ true → KeptBut (S.front stage.old).config is_queue (S.tells stage.old)
-        (S.tells stage.new) }
+    ensures controls { IfOk result (Controls (S.front stage.old) (S.front stage.new)
+        (S.holds stage.old) (S.number stage.old) (S.is_desk stage.old) vb (call_data call.now) now
+        value.new.bytes) }
+    ensures alone { S.is_telling stage.old ≡ true → S.front stage.new ≡ with_noted
+        (S.front stage.old) (event_by (S.number stage.old) (call_data call.now) now None
+        value.new.bytes result) }
+    ensures becomes { S.is_telling stage.old ≡ true → MatchResult result (ControlsFrom
+        (S.front stage.old) (S.tells stage.old Queue) (S.tells stage.new Queue) vb
+        (call_data call.now) value.new.bytes) (λ b. IsOut (S.front stage.old).config Control 0
+        b.part (S.tells stage.old) (S.tells stage.new)) }
+    ensures kept { S.is_telling stage.old ≡ true → KeptBut (S.front stage.old).config is_queue
+        (S.tells stage.old) (S.tells stage.new) }
     ensures bare { IfOk result (λ step. IsValueOf step value.new.bytes) }
     ensures short { IfOk result (λ _. length value.new.bytes ≤ max_value) }
     ensures same { IfErr result (λ _. value.new ≡ value.old) }
@@ -303,26 +314,31 @@ pub(crate) fn try_write<S: Stage<Part = Part>, G: Gate>(
         prior }
     requires value { max_value ≤ value.old.spare + length value.old.bytes }
     ensures stays { Stays S.lent S.fixed S.number S.is_desk S.is_telling stage.old stage.new }
-    ensures went { Went (S.front stage.old) (S.front stage.new) (S.holds stage.old) (S.number stage.old) (S.is_desk stage.old)
-        (event_by (S.number stage.old) (call_data call.now) now prior value.new.bytes result) }
+    ensures went { Went (S.front stage.old) (S.front stage.new) (S.holds stage.old)
+        (S.number stage.old) (S.is_desk stage.old) (event_by (S.number stage.old)
+        (call_data call.now) now prior value.new.bytes result) }
     ensures room { LeavesRoom (S.covers stage.old) (S.covers stage.new)
         (event_by (S.number stage.old) (call_data call.now) now prior value.new.bytes result) }
     ensures held { Same (S.holds stage.new) (S.holds stage.old) }
     ensures found { MatchResult result (λ _. S.losses stage.new ≡ S.losses stage.old)
-        (λ b. ((is_stripe stripe b.part || is_queue b.part) ≡ true) × Rose (S.losses stage.old) (S.losses stage.new)) }
+        (λ b. ((is_stripe stripe b.part || is_queue b.part) ≡ true) × Rose (S.losses stage.old)
+        (S.losses stage.new)) }
     ensures elsewhere { IfErr result (λ b. FoundElsewhere S.front S.holds S.lent S.fixed S.number
         S.is_desk S.is_telling S.elsewhere Write stripe stage.old b.part) }
     ensures writes { IfOk result (Writes (S.front stage.old) (S.front stage.new) (S.holds stage.old)
-        (S.number stage.old) (S.is_desk stage.old) stripe prior (call_data call.now) now value.new.bytes) }
+        (S.number stage.old) (S.is_desk stage.old) stripe prior (call_data call.now) now
+        value.new.bytes) }
     ensures passed { G.passed gate.new ≡ passed_by stripe result (G.passed gate.old) }
-    ensures alone { S.is_telling stage.old ≡ true → S.front stage.new ≡ with_noted (S.front stage.old)
-        (event_by (S.number stage.old) (call_data call.now) now prior value.new.bytes result) }
-    ensures becomes { S.is_telling stage.old ≡ true → MatchResult result (WritesFrom (S.front stage.old) stripe
-        (S.tells stage.old (Stripe stripe)) (S.tells stage.new (Stripe stripe)) (S.tells stage.old Queue) (S.tells stage.new Queue) prior (call_data call.now) now
-        value.new.bytes)
-        (λ b. IsOut (S.front stage.old).config Write stripe b.part (S.tells stage.old) (S.tells stage.new)) }
-    ensures kept { S.is_telling stage.old ≡ true → KeptBut (S.front stage.old).config (λ p. is_stripe stripe p || is_queue p)
-        (S.tells stage.old) (S.tells stage.new) }
+    ensures alone { S.is_telling stage.old ≡ true → S.front stage.new ≡ with_noted
+        (S.front stage.old) (event_by (S.number stage.old) (call_data call.now) now prior
+        value.new.bytes result) }
+    ensures becomes { S.is_telling stage.old ≡ true → MatchResult result (WritesFrom
+        (S.front stage.old) stripe (S.tells stage.old (Stripe stripe))
+        (S.tells stage.new (Stripe stripe)) (S.tells stage.old Queue) (S.tells stage.new Queue)
+        prior (call_data call.now) now value.new.bytes) (λ b. IsOut (S.front stage.old).config Write
+        stripe b.part (S.tells stage.old) (S.tells stage.new)) }
+    ensures kept { S.is_telling stage.old ≡ true → KeptBut (S.front stage.old).config
+        (λ p. is_stripe stripe p || is_queue p) (S.tells stage.old) (S.tells stage.new) }
     ensures bare { IfOk result (λ step. IsValueOf step value.new.bytes) }
     ensures short { IfOk result (λ _. length value.new.bytes ≤ max_value) }
     ensures same { IfErr result (λ _. value.new ≡ value.old) }
@@ -367,16 +383,17 @@ pub fn try_call<S: Stage<Part = Part>, G: Gate>(
     requires given { kind_of (call_data call.now) ≡ Change → ⊥ }
     requires within { IsWithin (call_data call.now) }
     requires moment { IsMoment now }
-    requires free { (p : PartName) → touches_call (S.front stage.old).config (call_data call.now) p ≡ true
-        → S.holds stage.old p ≡ false }
+    requires free { (p : PartName) → touches_call (S.front stage.old).config (call_data call.now) p
+        ≡ true → S.holds stage.old p ≡ false }
     requires room { HasRoom call_bytes (S.covers stage.old) }
     requires prior { PriorsStand (S.front stage.old) (S.number stage.old) (call_data call.now)
         prior }
     requires value { max_value ≤ value.old.spare + length value.old.bytes }
     ensures stays { Stays S.lent S.fixed S.number S.is_desk S.is_telling stage.old stage.new }
     ensures held { Same (S.holds stage.new) (S.holds stage.old) }
-    ensures tries { Tries S.front S.holds S.lent S.fixed S.number S.is_desk S.is_telling S.covers S.losses
-        S.elsewhere S.tells stage.old stage.new prior (call_data call.now) now value.new.bytes result }
+    ensures tries { Tries S.front S.holds S.lent S.fixed S.number S.is_desk S.is_telling S.covers
+        S.losses S.elsewhere S.tells stage.old stage.new prior (call_data call.now) now
+        value.new.bytes result }
     ensures passed { G.passed gate.new ≡ passed_on (has_key (call_data call.now))
         (stripe_of (key_in (call_data call.now)) config.now.stripes) result (G.passed gate.old) }
     ensures same { IfBusy result (value.new ≡ value.old) }

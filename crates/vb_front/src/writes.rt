@@ -122,8 +122,9 @@ fn write_over(
         HasText seen (node_at part.old.table.slots (key_in (call_data call.now))) }
     requires room { max_value ≤ value.old.spare }
     requires empty { value.old.bytes ≡ [] }
-    ensures comes { Wrote part.old queue.old (write_over part.old queue.old prior (call_data call.now) now
-        (shown_doc (text_at part.old.table (key_in (call_data call.now))) seen)) result part.new queue.new }
+    ensures comes { Wrote part.old queue.old (write_over part.old queue.old prior
+        (call_data call.now) now (shown_doc (text_at part.old.table (key_in (call_data call.now)))
+        seen)) result part.new queue.new }
     ensures value { value.new.bytes ≡ (write_over part.old queue.old prior (call_data call.now) now
         (shown_doc (text_at part.old.table (key_in (call_data call.now))) seen)).value }
     ensures short { length value.new.bytes ≤ max_value }
@@ -208,10 +209,11 @@ fn write_away(
     requires moment { IsMoment now }
     requires room { max_value ≤ value.old.spare }
     requires empty { value.old.bytes ≡ [] }
-    ensures comes { Wrote part.old queue.old (write_waits part.old queue.old prior (call_data call.now) key.now now
-        (waited part.old.table part.old.book key.now prior)) result part.new queue.new }
-    ensures value { value.new.bytes ≡ (write_waits part.old queue.old prior (call_data call.now) key.now now
-        (waited part.old.table part.old.book key.now prior)).value }
+    ensures comes { Wrote part.old queue.old (write_waits part.old queue.old prior
+        (call_data call.now) key.now now (waited part.old.table part.old.book key.now prior)) result
+        part.new queue.new }
+    ensures value { value.new.bytes ≡ (write_waits part.old queue.old prior (call_data call.now)
+        key.now now (waited part.old.table part.old.book key.now prior)).value }
     ensures short { length value.new.bytes ≤ max_value }
     ensures room { value.new.spare + length value.new.bytes ≡ value.old.spare
         + length value.old.bytes }
@@ -247,11 +249,12 @@ fn write_key(
     requires moment { IsMoment now }
     requires room { max_value ≤ value.old.spare }
     requires empty { value.old.bytes ≡ [] }
-    ensures comes { Wrote part.old queue.old (write_found part.old queue.old prior (call_data call.now)
-        (key_in (call_data call.now)) now (found (node_at part.old.table.slots (key_in (call_data call.now)))))
-        result part.new queue.new }
+    ensures comes { Wrote part.old queue.old (write_found part.old queue.old prior
+        (call_data call.now) (key_in (call_data call.now)) now (found (node_at part.old.table.slots
+        (key_in (call_data call.now))))) result part.new queue.new }
     ensures value { value.new.bytes ≡ (write_found part.old queue.old prior (call_data call.now)
-        (key_in (call_data call.now)) now (found (node_at part.old.table.slots (key_in (call_data call.now))))).value }
+        (key_in (call_data call.now)) now (found (node_at part.old.table.slots
+        (key_in (call_data call.now))))).value }
     ensures short { length value.new.bytes ≤ max_value }
     ensures room { value.new.spare + length value.new.bytes ≡ value.old.spare
         + length value.old.bytes }
@@ -282,22 +285,25 @@ pub fn write(
         ≡ part.old.table.index }
     requires moment { IsMoment now }
     requires room { max_value ≤ value.old.spare + length value.old.bytes }
-    ensures step { result ≡ (write_step part.old queue.old prior (call_data call.now) (key_in (call_data call.now))
-        now).step }
+    ensures step { result ≡ (write_step part.old queue.old prior (call_data call.now)
+        (key_in (call_data call.now)) now).step }
     ensures value { value.new.bytes ≡ (write_step part.old queue.old prior (call_data call.now)
         (key_in (call_data call.now)) now).value }
-    ensures left { Leaves part.old queue.old (write_step part.old queue.old prior (call_data call.now)
-        (key_in (call_data call.now)) now) part.new queue.new }
+    ensures left { Leaves part.old queue.old (write_step part.old queue.old prior
+        (call_data call.now) (key_in (call_data call.now)) now) part.new queue.new }
     ensures short { length value.new.bytes ≤ max_value }
     ensures room { value.new.spare + length value.new.bytes ≡ value.old.spare
         + length value.old.bytes }
     ensures keeps { KeepsStripe part.old part.new }
-    ensures legal { WriteIsLegal part.old queue.old (call_data call.now) (key_in (call_data call.now)) now prior
-        (write_step part.old queue.old prior (call_data call.now) (key_in (call_data call.now)) now) part.new queue.new }
-    ensures exact { WriteIsExact part.old queue.old (call_data call.now) (key_in (call_data call.now)) now prior
-        (write_step part.old queue.old prior (call_data call.now) (key_in (call_data call.now)) now) }
-    ensures fits { AnsweredHasRoom part.old queue.old (call_data call.now) (key_in (call_data call.now)) now prior
-        (write_step part.old queue.old prior (call_data call.now) (key_in (call_data call.now)) now) }
+    ensures legal { WriteIsLegal part.old queue.old (call_data call.now)
+        (key_in (call_data call.now)) now prior (write_step part.old queue.old prior
+        (call_data call.now) (key_in (call_data call.now)) now) part.new queue.new }
+    ensures exact { WriteIsExact part.old queue.old (call_data call.now)
+        (key_in (call_data call.now)) now prior (write_step part.old queue.old prior
+        (call_data call.now) (key_in (call_data call.now)) now) }
+    ensures fits { AnsweredHasRoom part.old queue.old (call_data call.now)
+        (key_in (call_data call.now)) now prior (write_step part.old queue.old prior
+        (call_data call.now) (key_in (call_data call.now)) now) }
 {
     // what is so of every stripe is known here by this call
     let _free = part.table.free();

@@ -53,10 +53,9 @@ fn put_number(
     requires moment { IsMoment now }
     requires room { max_value ≤ value.old.spare }
     requires empty { value.old.bytes ≡ [] }
-    ensures comes { Wrote part.old queue.old
-        (write_answer part.old queue.old prior (counts (shown_world part.old.table queue.old) key.now number flags
-        expiry now))
-        result part.new queue.new }
+    ensures comes { Wrote part.old queue.old (write_answer part.old queue.old prior (counts
+        (shown_world part.old.table queue.old) key.now number flags expiry now)) result part.new
+        queue.new }
     ensures value { value.new.bytes ≡ (write_answer part.old queue.old prior
         (counts (shown_world part.old.table queue.old) key.now number flags expiry now)).value }
     ensures short { length value.new.bytes ≤ max_value }
@@ -101,10 +100,9 @@ pub(crate) fn count(
     requires there { HasText live (node_at part.old.table.slots key.now) }
     requires room { max_value ≤ value.old.spare }
     requires empty { value.old.bytes ≡ [] }
-    ensures comes { Wrote part.old queue.old
-        (write_answer part.old queue.old prior (answer_count down (shown_world part.old.table queue.old) key.now
-        delta initial expiration cas now (shown_doc (text_at part.old.table key.now) live)))
-        result part.new queue.new }
+    ensures comes { Wrote part.old queue.old (write_answer part.old queue.old prior (answer_count
+        down (shown_world part.old.table queue.old) key.now delta initial expiration cas now
+        (shown_doc (text_at part.old.table key.now) live))) result part.new queue.new }
     ensures value { value.new.bytes ≡ (write_answer part.old queue.old prior (answer_count down
         (shown_world part.old.table queue.old) key.now delta initial expiration cas now
         (shown_doc (text_at part.old.table key.now) live))).value }

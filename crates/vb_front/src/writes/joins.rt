@@ -55,10 +55,9 @@ pub(crate) fn join(
     requires there { HasText live (node_at part.old.table.slots key.now) }
     requires room { max_value ≤ value.old.spare }
     requires empty { value.old.bytes ≡ [] }
-    ensures comes { Wrote part.old queue.old
-        (write_answer part.old queue.old prior (answer_join front (shown_world part.old.table queue.old) key.now
-        piece.now cas now (shown_doc (text_at part.old.table key.now) live)))
-        result part.new queue.new }
+    ensures comes { Wrote part.old queue.old (write_answer part.old queue.old prior (answer_join
+        front (shown_world part.old.table queue.old) key.now piece.now cas now (shown_doc
+        (text_at part.old.table key.now) live))) result part.new queue.new }
     ensures value { value.new.bytes ≡ (write_answer part.old queue.old prior (answer_join front
         (shown_world part.old.table queue.old) key.now piece.now cas now
         (shown_doc (text_at part.old.table key.now) live))).value }

@@ -114,11 +114,10 @@ pub(crate) fn put(
     requires tombstone { draft.deleted ≡ true → text.now ≡ [] }
     requires number { number_refusal queue.old.high ≡ None }
     requires moment { IsMoment now }
-    ensures { (value : List ℕ) → Wrote part.old queue.old
-        (write_answer part.old queue.old prior (put_success (shown_world part.old.table queue.old) key.now
-        (next_doc (shown_world part.old.table queue.old) text.now draft.flags draft.expiry draft.deleted now)
-        shown value))
-        (step_of result) part.new queue.new }
+    ensures { (value : List ℕ) → Wrote part.old queue.old (write_answer part.old queue.old prior
+        (put_success (shown_world part.old.table queue.old) key.now (next_doc
+        (shown_world part.old.table queue.old) text.now draft.flags draft.expiry draft.deleted now)
+        shown value)) (step_of result) part.new queue.new }
 {
     let len = text.len() as u32;
     let high = queue.high();

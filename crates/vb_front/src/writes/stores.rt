@@ -29,12 +29,12 @@ pub(crate) fn store(
     requires home { stripe_of key.now part.old.table.stripes ≡ part.old.table.index }
     requires text { IsValue text.now }
     requires moment { IsMoment now }
-    ensures comes { Wrote part.old queue.old
-        (write_answer part.old queue.old prior (store_row (shown_world part.old.table queue.old) kind
-        key.now text.now flags expiration cas now current))
-        result part.new queue.new }
-    ensures value { [] ≡ (write_answer part.old queue.old prior (store_row (shown_world part.old.table queue.old)
-        kind key.now text.now flags expiration cas now current)).value }
+    ensures comes { Wrote part.old queue.old (write_answer part.old queue.old prior (store_row
+        (shown_world part.old.table queue.old) kind key.now text.now flags expiration cas now
+        current)) result part.new queue.new }
+    ensures value { [] ≡ (write_answer part.old queue.old prior (store_row
+        (shown_world part.old.table queue.old) kind key.now text.now flags expiration cas now
+        current)).value }
 {
     let refused = rules::size_refusal(fit(&part.table, queue), key.len(), text.len())
         .or(rules::store_refusal(kind, cas, current))
@@ -63,12 +63,10 @@ pub(crate) fn delete(
     requires key { IsKey key.now }
     requires home { stripe_of key.now part.old.table.stripes ≡ part.old.table.index }
     requires moment { IsMoment now }
-    ensures comes { Wrote part.old queue.old
-        (write_answer part.old queue.old prior (delete_row (shown_world part.old.table queue.old) key.now cas now
-        current))
-        result part.new queue.new }
-    ensures value { [] ≡ (write_answer part.old queue.old prior (delete_row (shown_world part.old.table queue.old)
-        key.now cas now current)).value }
+    ensures comes { Wrote part.old queue.old (write_answer part.old queue.old prior (delete_row
+        (shown_world part.old.table queue.old) key.now cas now current)) result part.new queue.new }
+    ensures value { [] ≡ (write_answer part.old queue.old prior (delete_row
+        (shown_world part.old.table queue.old) key.now cas now current)).value }
 {
     let refused = rules::wanted_refusal(cas, current).or(rules::number_refusal(queue.high()));
     if let Some(status) = refused {
