@@ -2,6 +2,7 @@
 mod at_stage;
 mod generated;
 mod held;
+mod places;
 mod waits;
 mod writes;
 
