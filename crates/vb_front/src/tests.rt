@@ -3,6 +3,7 @@ mod at_stage;
 mod generated;
 mod held;
 mod places;
+mod refusals;
 mod waits;
 mod writes;
 
