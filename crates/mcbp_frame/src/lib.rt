@@ -13,7 +13,7 @@ pub use laws::{
     division_goes_on, kinds_are_apart, one_division, rest_is_of_a_kind, some_division,
     stream_divides,
 };
-pub use response::put_response;
+pub use response::{put_head, put_response};
 
 #[cfg(test)]
 mod tests;
