@@ -1,5 +1,5 @@
 -- What a connection leaves to others it doesn't answer.
-use Rattle.std.proofs.Common.{◌≡◌, ℕ, ◌<◌, Bool, true, false, nat_lt, if◌then◌else◌, List, [], Result, Ok, Err, refl, rules, arith}
+use Rattle.std.proofs.Common.{◌≡◌, ℕ, ◌<◌, Bool, true, false, nat_lt, if◌then◌else◌, List, [], Result, Ok, Err, refl, sym, ap, ◌∙◌, rules, arith}
 use Rattle.ep_model.specs.declared.data.CallData.{CallData}
 use Rattle.ep_model.specs.Statuses.{not_my_vbucket}
 use Rattle.mcbp_frame.specs.declared.frame.FrameData.{FrameData}
@@ -7,10 +7,11 @@ use Rattle.mcbp_ops.specs.declared.op.Bad.{Bad}
 use Rattle.mcbp_ops.specs.declared.op.OpData.{OpData}
 use Rattle.mcbp_ops.specs.declared.op.OpData.TheVariants as ops
 use Rattle.mcbp_ops.specs.Ops.{op_of}
-use Rattle.mcbp_ops.specs.Text.{status_text}
+use Rattle.mcbp_ops.specs.Text.{status_text, value_text}
 use Rattle.conn_core.specs.declared.act.ActData.{ActData}
 use Rattle.conn_core.specs.declared.act.ActData.TheVariants.{Answered, Quit, Engine, Stat}
 use Rattle.conn_core.specs.declared.hello.Features.{Features}
+use Rattle.conn_core.specs.Hello.{asks_seqno, granted}
 use Rattle.conn_core.specs.Acts.{act_of, act_of_op, own_text, own_text_of_op, features_after, features_after_op}
 
 engine_silent_op : (vbuckets : ℕ) (f : FrameData) (op : Result OpData Bad) (call : CallData) → Engine call ≡ act_of_op vbuckets f op → own_text_of_op vbuckets f op ≡ []
@@ -66,3 +67,9 @@ engine_vbucket_op vbuckets f (Ok ops.Quit) call e = cc
 -- a call that goes on has one of so many vBuckets
 pub engine_vbucket : (vbuckets : ℕ) (f : FrameData) (call : CallData) → Engine call ≡ act_of vbuckets f → f.vbucket < vbuckets
 engine_vbucket vbuckets f call e = let lt = engine_vbucket_op vbuckets f (op_of f) call e in search (rules, lt)
+
+-- a Hello is answered by what it was granted
+pub hello_text : (vbuckets : ℕ) (f : FrameData) (asked : List ℕ) (seqno : Bool) → Ok (ops.Hello asked) ≡ op_of f → seqno ≡ asks_seqno asked → own_text vbuckets f ≡ value_text f (granted (record { seqno = seqno }))
+hello_text vbuckets f asked seqno is asks =
+    ap (λ (op : Result OpData Bad). own_text_of_op vbuckets f op) (sym is)
+    ∙ ap (λ (b : Bool). value_text f (granted (record { seqno = b }))) (sym asks)

@@ -8,7 +8,7 @@ use Rattle.mcbp_ops.specs.declared.op.Bad.{Bad}
 use Rattle.mcbp_ops.specs.declared.op.OpData.{OpData}
 use Rattle.mcbp_ops.specs.declared.op.OpData.TheVariants as ops
 use Rattle.mcbp_ops.specs.Ops.{op_of, bad_status}
-use Rattle.mcbp_ops.specs.Text.{is_silent, status_text, value_text}
+use Rattle.mcbp_ops.specs.Text.{IsFormOf, is_silent, status_text, value_text}
 use Rattle.conn_core.specs.declared.act.Act.{Act}
 use Rattle.conn_core.specs.declared.act.Act.TheVariants as acts
 use Rattle.conn_core.specs.declared.act.ActData.{ActData}
@@ -20,7 +20,7 @@ use Rattle.conn_core.specs.Hello.{asks_seqno, granted}
 abbrev pub act_data : Act → ActData
 act_data acts.Answered = Answered
 act_data acts.Quit = Quit
-act_data (acts.Engine call) = Engine (call_data call)
+act_data (acts.Engine call form) = Engine (call_data call)
 act_data (acts.Stat group) = Stat group.now
 
 -- a call goes on where its vBucket is one of so many
@@ -42,6 +42,13 @@ IsReady f Answered = Unit {0}
 IsReady f Quit = Unit {0}
 IsReady f (Engine call) = IsWithin call × (f.extras_len + f.key_len ≤ length f.body)
 IsReady f (Stat group) = Unit {0}
+
+-- a call that goes on carries the form of its opcode
+abbrev pub HasForm : ℕ → Act → Type 0
+HasForm opcode acts.Answered = Unit {0}
+HasForm opcode acts.Quit = Unit {0}
+HasForm opcode (acts.Engine call form) = IsFormOf opcode form
+HasForm opcode (acts.Stat group) = Unit {0}
 
 -- the features after a Hello are those that it asks for and that can be granted; nothing else changes them
 abbrev pub asked_features : List ℕ → Features

@@ -4,7 +4,6 @@ use Rattle.conn_core.specs.declared.conn.Conn.{Conn}
 
 pub record IsNew (c : Conn) : Type 0 where
   pub out : c.out.bytes ≡ []
-  pub value : c.value.bytes ≡ []
   pub features : c.features.seqno ≡ false
 
 -- how many bytes of answers a connection holds

@@ -1,5 +1,6 @@
 // What is left to do for a frame.
 use ep_model::{Call, CallData};
+use mcbp_ops::Form;
 use std::collections::LinkedList;
 
 /// What is left to do for a frame once the connection has done its part.
@@ -9,8 +10,8 @@ pub enum Act<'a> {
     Answered,
     /// It was answered, and ends the connection.
     Quit,
-    /// A call on the frame's vBucket, which there is.
-    Engine(Call<'a>),
+    /// A call on the frame's vBucket, which there is, with the form of its opcode.
+    Engine { call: Call<'a>, form: Form },
     /// The statistics of a group.
     Stat(&'a [u8]),
 }

@@ -1,55 +1,48 @@
 // One connection's state.
 ghost use Rattle.std.specs.Prelude.{◌≡◌, ◌+◌, ◌<◌, ◌≤◌, ◌^◌, ◌++◌, [], length, IfOk, if◌then◌else◌};
 ghost use Rattle.ep_model.specs.Statuses.{success};
-ghost use Rattle.mcbp_ops.specs.Text.{is_silent, status_text, value_text};
+ghost use Rattle.mcbp_ops.specs.Text.{IsFormOf, is_silent, status_text, value_text};
 ghost use Rattle.conn_core.specs.Hello.{granted};
 ghost use Rattle.mcbp_frame.specs.Frames.{frame_data};
-ghost use Rattle.conn_core.specs.Acts.{act_data, act_of, own_text, features_after, IsReady};
+ghost use Rattle.conn_core.specs.Acts.{act_data, act_of, own_text, features_after, IsReady, HasForm};
 
 use crate::act::Act;
 use crate::hello::{Features, asks_seqno};
-use ep_model::limits::VALUE_ROOM;
 use ep_model::{NoMemory, Out, status};
 use mcbp_frame::{Frame, HEADER};
-use mcbp_ops::{Op, is_silent, put_status, put_value, read_call};
+use mcbp_ops::{Form, Op, Reading, put_status, put_value, read_call};
 use std::alloc::Global;
 
 /// How many bytes of answers a connection holds.
 pub const OUT_ROOM: usize = 4_194_304;
 
-/// A connection: the answers that aren't written yet, room for a value, and the features that the last Hello
-/// granted. All its memory is taken by `new`.
+/// A connection: the answers that aren't written yet, and the features that the last Hello granted. All its memory is
+/// taken by `new`.
 #[derive(Drop)]
 pub struct Conn {
     pub out: Out,
-    pub value: Out,
     pub features: Features,
 }
 
 impl Conn {
-    ghost use Rattle.ep_model.specs.Limits.{value_room};
     ghost use Rattle.conn_core.specs.Conns.{IsNew, out_room, answer_room};
 
-    /// A connection with empty buffers and no feature.
+    /// A connection with an empty buffer and no feature.
     pub fn new(alloc: Global) -> Result<Conn, NoMemory>
-        ensures { IfOk result (λ conn. IsNew conn × (conn.out.spare ≡ out_room)
-            × (conn.value.spare ≡ value_room)) }
+        ensures { IfOk result (λ conn. IsNew conn × (conn.out.spare ≡ out_room)) }
     {
         Ok(Conn {
             out: Out::new(alloc, OUT_ROOM)?,
-            value: Out::new(alloc, VALUE_ROOM)?,
             features: Features { seqno: false },
         })
     }
 
-    /// Empties both buffers and takes back every feature, in constant time.
+    /// Empties the buffer and takes back every feature, in constant time.
     pub fn clear(&mut self)
         ensures new { IsNew self.new }
         ensures out { self.new.out.spare ≡ self.old.out.spare + length self.old.out.bytes }
-        ensures value { self.new.value.spare ≡ self.old.value.spare + length self.old.value.bytes }
     {
         self.out.cut(0);
-        self.value.cut(0);
         self.features = Features { seqno: false };
     }
 
@@ -59,6 +52,7 @@ impl Conn {
     pub fn sort_frame<'a>(&mut self, frame: &Frame<'a>, vbuckets: u16) -> Act<'a>
         requires { answer_room ≤ self.old.out.spare }
         ensures act { act_data result ≡ act_of vbuckets (frame_data frame.now) }
+        ensures form { HasForm frame.now.opcode result }
         ensures ready { IsReady (frame_data frame.now) (act_of vbuckets (frame_data frame.now)) }
         ensures text { self.new.out.bytes ≡ self.old.out.bytes
             ++ own_text vbuckets (frame_data frame.now) }
@@ -66,38 +60,40 @@ impl Conn {
             + length self.old.out.bytes }
         ensures features { self.new.features ≡ features_after self.old.features
             (frame_data frame.now) }
-        ensures value { self.new.value ≡ self.old.value }
     {
-        match read_call(frame) {
+        let Reading { op, form } = match read_call(frame) {
+            Ok(reading) => reading,
             Err(bad) => {
                 put_status(&mut self.out, frame, bad.status());
-                Act::Answered
+                return Act::Answered;
             }
-            Ok(Op::Engine(call)) => {
+        };
+        match op {
+            Op::Engine(call) => {
                 if frame.vbucket < vbuckets {
-                    return Act::Engine(call);
+                    return Act::Engine { call, form };
                 }
                 put_status(&mut self.out, frame, status::NOT_MY_VBUCKET);
                 Act::Answered
             }
-            Ok(Op::Noop) => {
+            Op::Noop => {
                 put_status(&mut self.out, frame, status::SUCCESS);
                 Act::Answered
             }
-            Ok(Op::Version) => {
+            Op::Version => {
                 put_value(&mut self.out, frame, b"ep_server 1");
                 Act::Answered
             }
-            Ok(Op::Stat { group }) => Act::Stat(group),
-            Ok(Op::Hello { codes }) => {
+            Op::Stat { group } => Act::Stat(group),
+            Op::Hello { codes } => {
                 self.features = Features {
                     seqno: asks_seqno(codes),
                 };
                 put_granted(&mut self.out, frame, self.features);
                 Act::Answered
             }
-            Ok(Op::Quit) => {
-                put_quit(&mut self.out, frame);
+            Op::Quit => {
+                put_quit(&mut self.out, frame, form);
                 Act::Quit
             }
         }
@@ -119,14 +115,15 @@ fn put_granted(out: &mut Out, frame: &Frame, features: Features)
 }
 
 // Appends the answer to a Quit, unless it is quiet.
-fn put_quit(out: &mut Out, frame: &Frame)
-    requires { HEADER ≤ out.old.spare }
+fn put_quit(out: &mut Out, frame: &Frame, form: Form)
+    requires room { HEADER ≤ out.old.spare }
+    requires form { IsFormOf frame.now.opcode form }
     ensures bytes { out.new.bytes ≡ out.old.bytes
         ++ (if is_silent frame.now.opcode success then [] else status_text (frame_data frame.now)
         success) }
     ensures room { out.new.spare + length out.new.bytes ≡ out.old.spare + length out.old.bytes }
 {
-    if !is_silent(frame.opcode, status::SUCCESS) {
+    if !form.silence.hides(status::SUCCESS) {
         put_status(out, frame, status::SUCCESS);
     }
 }

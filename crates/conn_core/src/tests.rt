@@ -26,7 +26,7 @@ fn name_of(act: &Act) -> &'static str {
     match act {
         Act::Answered => "answered",
         Act::Quit => "quit",
-        Act::Engine(_) => "engine",
+        Act::Engine { .. } => "engine",
         Act::Stat(_) => "stat",
     }
 }

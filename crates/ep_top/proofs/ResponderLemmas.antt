@@ -1,6 +1,7 @@
 -- A responder goes on by one event, and by one answer.
-use Rattle.std.proofs.Common.{◌≡◌, ℕ, ◌+◌, ◌<◌, Bool, true, false, List, [], ◌∷◌, ◌++◌, length, refl, sym, ap, ◌∙◌, subst, Option, IfSome, append_assoc, add-zero, arith}
-use Rattle.std.proofs.lemmas.List.{append-nil}
+use Rattle.std.proofs.Common.{◌≡◌, ℕ, ◌+◌, ◌-◌, ◌<◌, ◌≤◌, Bool, true, false, List, [], ◌∷◌, ◌++◌, length, take, drop, refl, sym, ap, ◌∙◌, subst, Option, IfSome, append_assoc, add-zero, length-append, arith}
+use Rattle.std.proofs.lemmas.List.{append-nil, take-append-le, length-drop}
+use Rattle.std.proofs.Math.Seq.{drop-append_seam, take-length}
 use Rattle.std.specs.Prelude.{Some, Result, Ok, Err, OnErr}
 use Rattle.ep_model.specs.declared.call.Reply.{Reply}
 use Rattle.ep_model.specs.declared.data.CallData.{CallData}
@@ -22,7 +23,6 @@ use Rattle.conn_core.specs.declared.act.ActData.{ActData}
 use Rattle.conn_core.specs.declared.act.ActData.TheVariants as acts
 use Rattle.conn_core.specs.declared.conn.Conn.{Conn}
 use Rattle.conn_core.specs.declared.hello.Features.{Features}
-use Rattle.ep_model.specs.Limits.{value_room}
 use Rattle.conn_core.specs.Conns.{IsNew, out_room}
 use Rattle.conn_core.specs.Acts.{own_text, features_after}
 use Rattle.conn_core.proofs.ActLemmas.{engine_features, engine_vbucket}
@@ -78,9 +78,9 @@ opened-apply w (Sets state) = refl
 
 -- the responder stays sound behind a call
 pub sound_after_call : (old new : Responder) (sorted : Conn) (frame : FrameData) (call : CallData) (now : ℕ) → IsSound old
-    → sorted.out.spare + length sorted.out.bytes ≡ old.conn.out.spare + length old.conn.out.bytes → sorted.value ≡ old.conn.value
+    → sorted.out.spare + length sorted.out.bytes ≡ old.conn.out.spare + length old.conn.out.bytes
     → AnswersCall frame call now old.plain new.plain old.history new.history sorted new.conn → IsSound new
-sound_after_call old new sorted frame call now s room value c = record {
+sound_after_call old new sorted frame call now s room c = record {
   world =
       c.world ∙ world_after_call old.plain (events_of 0 old.history) 0 now call c.reply c.value s.world
       ∙ ap (λ (l : List EventData). world_of (session_front l)) (sym (events_after old.history new.history (Called 0 call now c.reply c.value) c.noted));
@@ -88,7 +88,6 @@ sound_after_call old new sorted frame call now s room value c = record {
       (may_call old.plain (events_of 0 old.history) 0 now call c.reply c.value s.world s.opened c.replied c.shown);
   opened = ap (λ (w : World). w.opened) c.world ∙ opened-apply old.plain (answer old.plain call now).effect ∙ s.opened;
   answers = c.out_room ∙ room ∙ s.answers;
-  value = c.value_room ∙ ap (λ (o : OutData). o.spare + length o.bytes) value ∙ s.value;
 }
 
 only_vbucket : (vbucket : ℕ) → vbucket < vbuckets → 0 ≡ vbucket
@@ -148,16 +147,68 @@ empty_room o none = ap (λ (l : List ℕ). o.spare + length l) none ∙ add-zero
 
 -- a responder that has opened and did nothing else
 pub sound_fresh : (f : Responder) → f.history ≡ [] ++ (0, Opened) ∷ [] → f.plain ≡ record (begun (session_front [])) { opened = true }
-    → IsNew f.conn → f.conn.out.spare ≡ out_room → f.conn.value.spare ≡ value_room → IsSound f
+    → IsNew f.conn → f.conn.out.spare ≡ out_room → IsSound f
 unfolding May
-sound_fresh f noted plain new out value = record {
+sound_fresh f noted plain new out = record {
   world = plain ∙ ap (λ (l : List EventData). world_of (session_front l)) (sym (events_after [] f.history Opened noted));
   legal = history_after [] f.history Opened no_history noted (record { put = refl; unopened = refl });
   opened = ap (λ (w : World). w.opened) plain;
   answers = empty_room f.conn.out new.out ∙ out;
-  value = empty_room f.conn.value new.value ∙ value;
 }
 
 pub err_three : {T E A B C : Type 0} (r : Result T E) → A → B → C → OnErr r (A × B × C)
 err_three (Ok x) a b c = tt
 err_three (Err e) a b c = (a, b, c)
+
+pub err_four : {T E A B C D : Type 0} (r : Result T E) → A → B → C → D → OnErr r (A × B × C × D)
+err_four (Ok x) a b c d = tt
+err_four (Err e) a b c d = (a, b, c, d)
+
+-- what stands behind bytes that end there
+behind : (from : ℕ) (begun value all : List ℕ) → from ≡ length begun → all ≡ begun ++ value → drop from all ≡ value
+behind from begun value all place is = ap (λ (n : ℕ). drop n all) place ∙ ap (λ (l : List ℕ). drop (length begun) l) is ∙ drop-append_seam begun value
+
+-- a slice to the end
+pub to_end : (from : ℕ) (bytes all : List ℕ) → bytes ≡ all → take (length bytes - from) (drop from bytes) ≡ drop from all
+to_end from bytes all is =
+    ap (λ (n : ℕ). take n (drop from bytes)) (sym (length-drop from bytes)) ∙ take-length (drop from bytes) ∙ ap (λ (l : List ℕ). drop from l) is
+
+-- what stands in front of them
+before : (at : ℕ) (old begun value all : List ℕ) → at ≡ length old → take (length old) begun ≡ old → length old ≤ length begun → all ≡ begun ++ value → take at all ≡ old
+before at old begun value all place kept short is =
+    ap (λ (n : ℕ). take n all) place ∙ ap (λ (l : List ℕ). take (length old) l) is ∙ take-append-le (length old) begun value short ∙ kept
+
+-- a call was answered behind the room for its reply's head, and noted from there
+pub answered_behind : (f : FrameData) (call : CallData) (now : ℕ) (world world' : World) (noted noted' : List (ℕ × EventData)) (old new : Conn) (reply : Reply)
+    (at from head : ℕ) (begun shown all : List ℕ)
+    → at ≡ length old.out.bytes → take (length old.out.bytes) begun ≡ old.out.bytes → length begun ≡ length old.out.bytes + head → from ≡ length begun
+    → all ≡ begun ++ (answer world call now).value → shown ≡ drop from all
+    → reply ≡ (answer world call now).reply → world' ≡ apply world (answer world call now).effect
+    → noted' ≡ noted ++ (0, Called 0 call now reply shown) ∷ []
+    → new.out.bytes ≡ take at all ++ reply_text f reply (drop (at + head) all) old.features.seqno
+    → new.features ≡ old.features → new.out.spare + length new.out.bytes ≡ old.out.spare + length old.out.bytes
+    → AnswersCall f call now world world' noted noted' old new
+answered_behind f call now world world' noted noted' old new reply at from head begun shown all place kept long ends is slice replied effect event text features room =
+    let value = (answer world call now).value in
+    let place_is : at + head ≡ from = omega (arith, place, long, ends) in
+    let short : length old.out.bytes ≤ length begun = omega (arith, long) in
+    record {
+      reply = reply;
+      value = shown;
+      replied = replied;
+      shown = slice ∙ behind from begun value all ends is;
+      world = effect;
+      noted = event;
+      text =
+          text ∙ ap (λ l. l ++ reply_text f reply (drop (at + head) all) old.features.seqno) (before at old.out.bytes begun value all place kept short is)
+          ∙ ap (λ l. old.out.bytes ++ reply_text f reply l old.features.seqno) (ap (λ (n : ℕ). drop n all) place_is ∙ sym slice);
+      features = features;
+      out_room = room;
+    }
+
+-- at an error behind it the room alone is left
+pub left_over : (old begun all value : List ℕ) → take (length old) begun ≡ old → length old ≤ length begun → all ≡ begun ++ value
+    → (take (length old) all ≡ old) × (length old ≤ length all)
+left_over old begun all value kept long is =
+    let size : length all ≡ length (begun ++ value) = ap (λ (l : List ℕ). length l) is in
+    (before (length old) old begun value all refl kept long is, omega (arith, size, length-append begun value))

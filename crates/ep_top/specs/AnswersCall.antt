@@ -20,4 +20,3 @@ pub record AnswersCall (frame : FrameData) (call : CallData) (now : ℕ) (old_wo
   pub text : new.out.bytes ≡ old.out.bytes ++ reply_text frame reply value old.features.seqno
   pub features : new.features ≡ old.features
   pub out_room : new.out.spare + length new.out.bytes ≡ old.out.spare + length old.out.bytes
-  pub value_room : new.value.spare + length new.value.bytes ≡ old.value.spare + length old.value.bytes

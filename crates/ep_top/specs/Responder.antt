@@ -1,4 +1,4 @@
--- What answers frames: the plain map and the history agree, and the buffers have room.
+-- What answers frames: the plain map and the history agree, and the buffer has its room.
 use Rattle.std.specs.Prelude.{◌≡◌, ℕ, ◌+◌, Bool, List, [], ◌∷◌, ◌++◌, length, true, false, Option, Some, IfSome}
 use Rattle.ep_model.specs.declared.call.Reply.{Reply}
 use Rattle.ep_model.specs.declared.data.EventData.{EventData}
@@ -13,7 +13,6 @@ use Rattle.mcbp_frame.specs.declared.frame.FrameData.{FrameData}
 use Rattle.ep_top.specs.declared.responder.Responder.{Responder}
 use Rattle.ep_top.specs.declared.responder.Served.{Served}
 use Rattle.ep_top.specs.declared.responder.Served.TheVariants as serveds
-use Rattle.ep_model.specs.Limits.{value_room}
 use Rattle.conn_core.specs.Conns.{out_room}
 use Rattle.conn_core.specs.Acts.{features_after}
 use Rattle.conn_core.specs.Exchange.{is_quit}
@@ -38,7 +37,6 @@ pub record IsSound (f : Responder) : Type 0 where
   pub legal : IsLegalHistory f.history
   pub opened : f.plain.opened ≡ true
   pub answers : f.conn.out.spare + length f.conn.out.bytes ≡ out_room
-  pub value : f.conn.value.spare + length f.conn.value.bytes ≡ value_room
 
 -- it has opened, and nothing else
 pub record IsFresh (f : Responder) : Type 0 where
@@ -68,5 +66,4 @@ pub record KeepsAllButAnswers (old new : Responder) : Type 0 where
   pub plain : new.plain ≡ old.plain
   pub history : new.history ≡ old.history
   pub features : new.conn.features ≡ old.conn.features
-  pub value : new.conn.value ≡ old.conn.value
   pub room : new.conn.out.spare + length new.conn.out.bytes ≡ old.conn.out.spare + length old.conn.out.bytes

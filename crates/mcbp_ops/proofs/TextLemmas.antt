@@ -1,5 +1,5 @@
 -- How long the texts of replies are.
-use Rattle.std.proofs.Common.{◌≡◌, ℕ, ◌+◌, ◌≤◌, ◌==◌, Bool, true, false, if◌then◌else◌, List, [], ◌++◌, length, take, drop, refl, ap, ◌∙◌, arith, length-append}
+use Rattle.std.proofs.Common.{◌≡◌, ℕ, ◌+◌, ◌≤◌, ◌==◌, Bool, true, false, if◌then◌else◌, List, [], ◌++◌, length, take, drop, refl, sym, subst, ap, ◌∙◌, arith, length-append}
 use Rattle.std.specs.Prelude.{Result, Ok, Err}
 use Rattle.std.proofs.lemmas.List.{length-take}
 use Rattle.byteorder.specs.Endian.{big_bytes}
@@ -11,7 +11,7 @@ use Rattle.mcbp_ops.specs.declared.kind.Kind.TheVariants.{Get, Store, Join, Coun
 use Rattle.mcbp_ops.specs.declared.op.Bad.{Bad}
 use Rattle.mcbp_ops.specs.Table.{kind_of}
 use Rattle.mcbp_ops.specs.Checks.{key_of}
-use Rattle.mcbp_ops.specs.Text.{is_silent, mutation_extras, answer_text, success_text, status_text, kind_text, reply_text}
+use Rattle.mcbp_ops.specs.Text.{is_silent, mutation_extras, answer_text, success_text, status_text, kind_text, reply_text, head_length}
 use Rattle.mcbp_ops.specs.Laws.{ReplyTextFits}
 
 -- a header has 24 bytes
@@ -66,6 +66,13 @@ reply_text_fits f reply value seqno_feature =
     chosen (is_silent f.opcode reply.status) (reply.status == success) (kind_text f reply value seqno_feature (kind_of f.opcode)) (status_text f reply.status) (40 + f.key_len + length value)
     (kind_fits f reply value seqno_feature (kind_of f.opcode)) (status_fits f reply.status value)
 
--- a text has room where the longest has
-pub has_room : (f : FrameData) (reply : Reply) (value : List ℕ) (seqno_feature : Bool) (spare : ℕ) → 40 + f.key_len + length value ≤ spare → length (reply_text f reply value seqno_feature) ≤ spare
-has_room f reply value seqno_feature spare enough = omega (arith, reply_text_fits f reply value seqno_feature)
+-- a counter's answer that shows the uuid and the sequence number, in front of the value that stands
+pub stamped_count : (f : FrameData) (reply : Reply) (at : ℕ) (old new stamp : List ℕ) (seqno_feature : Bool) (kind : Kind) (down : Bool)
+    → kind ≡ Count down → seqno_feature ≡ true → stamp ≡ big_bytes 8 reply.uuid ++ big_bytes 8 reply.seqno
+    → new ≡ take at old ++ answer_text f success reply.cas stamp [] (drop (at + (24 + length stamp + 0)) old)
+    → new ≡ take at old ++ success_text f reply (drop (at + head_length f seqno_feature kind) old) seqno_feature kind
+stamped_count f reply at old new stamp seqno_feature kind down counts shown is written =
+    let Shows : List ℕ → Type 0 = λ extras. new ≡ take at old ++ answer_text f success reply.cas extras [] (drop (at + (24 + length extras + 0)) old) in
+    let AtKind : Kind → Type 0 = λ k. new ≡ take at old ++ success_text f reply (drop (at + head_length f true k) old) true k in
+    let AtFeature : Bool → Type 0 = λ b. new ≡ take at old ++ success_text f reply (drop (at + head_length f b kind) old) b kind in
+    subst AtFeature (sym shown) (subst AtKind (sym counts) (subst Shows is written))

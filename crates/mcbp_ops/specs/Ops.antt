@@ -18,6 +18,7 @@ use Rattle.mcbp_ops.specs.declared.op.Bad.TheVariants.{Unknown, Unsupported, Inv
 use Rattle.mcbp_ops.specs.declared.op.Op.{Op}
 use Rattle.mcbp_ops.specs.declared.op.Op.TheVariants as ops
 use Rattle.mcbp_ops.specs.declared.op.OpData.{OpData}
+use Rattle.mcbp_ops.specs.declared.read.Reading.{Reading}
 use Rattle.mcbp_ops.specs.declared.op.OpData.TheVariants.{Engine, Noop, Version, Stat, Hello, Quit}
 use Rattle.mcbp_ops.specs.Table.{kind_of, shape_of}
 use Rattle.mcbp_ops.specs.Checks.{extras_of, key_of, value_of, refusal_of}
@@ -41,6 +42,10 @@ op_data ops.Quit = Quit
 abbrev pub result_data : Result Op Bad → Result OpData Bad
 result_data (Ok op) = Ok (op_data op)
 result_data (Err bad) = Err bad
+
+abbrev pub reading_data : Result Reading Bad → Result OpData Bad
+reading_data (Ok reading) = Ok (op_data reading.op)
+reading_data (Err bad) = Err bad
 
 abbrev pub call_result : Result Call Bad → Result CallData Bad
 call_result (Ok call) = Ok (call_data call)

@@ -1,6 +1,7 @@
 -- The table of opcodes: what each asks for, and the lengths that a frame of it may have.
 use Rattle.std.specs.Prelude.{ℕ, true, false, ◌==◌, ◌||◌, if◌then◌else◌, Result, Ok, Err}
 use Rattle.ep_model.specs.declared.call.StoreKind.TheVariants.{Set, Add, Replace}
+use Rattle.mcbp_ops.specs.declared.kind.Form.{Form}
 use Rattle.mcbp_ops.specs.declared.kind.Kind.{Kind}
 use Rattle.mcbp_ops.specs.declared.kind.Kind.TheVariants.{Get, Store, Join, Count, Delete, Touch, Observe, Failovers, SetState, GetState, Stat, Hello, Noop, Version, Quit}
 use Rattle.mcbp_ops.specs.declared.op.Bad.{Bad}
@@ -38,6 +39,11 @@ kind_of opcode =
     if opcode == 0x07 || opcode == 0x17 then Ok Quit else
     if opcode == 0x08 || opcode == 0x18 then Err Unsupported else
     Err Unknown
+
+-- what the form of an opcode asks for
+abbrev pub kind_result : Result Form Bad → Result Kind Bad
+kind_result (Ok form) = Ok form.kind
+kind_result (Err bad) = Err bad
 
 -- so many bytes of extras, a key and a value
 abbrev pub shape_with : ℕ → KeyRule → ValueRule → Shape

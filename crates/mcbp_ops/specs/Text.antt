@@ -1,10 +1,13 @@
 -- The text of a reply.
-use Rattle.std.specs.Prelude.{ℕ, Bool, true, false, ◌==◌, ◌||◌, if◌then◌else◌, List, [], ◌++◌, Result, Ok, Err}
+use Rattle.std.specs.Prelude.{◌≡◌, ℕ, ◌+◌, Bool, true, false, ◌==◌, ◌||◌, if◌then◌else◌, List, [], ◌++◌, length, Result, Ok, Err}
 use Rattle.byteorder.specs.Endian.{big_bytes}
 use Rattle.ep_model.specs.declared.call.Reply.{Reply}
 use Rattle.ep_model.specs.Statuses.{success, key_not_found}
 use Rattle.mcbp_frame.specs.declared.frame.FrameData.{FrameData}
 use Rattle.mcbp_frame.specs.Response.{response}
+use Rattle.mcbp_ops.specs.declared.kind.Form.{Form}
+use Rattle.mcbp_ops.specs.declared.kind.Silence.{Silence}
+use Rattle.mcbp_ops.specs.declared.kind.Silence.TheVariants as silences
 use Rattle.mcbp_ops.specs.declared.kind.Kind.{Kind}
 use Rattle.mcbp_ops.specs.declared.kind.Kind.TheVariants.{Get, Store, Join, Count, Delete, Touch, Observe, Failovers, SetState, GetState, Stat, Hello, Noop, Version, Quit}
 use Rattle.mcbp_ops.specs.declared.op.Bad.{Bad}
@@ -26,6 +29,18 @@ is_silent opcode status =
     if opcode == 0x17 then true else
     if hides_misses opcode then status == key_not_found else
     if hides_success opcode then status == success else false
+
+-- whether a silence hides a reply of this status
+abbrev pub hides : Silence → ℕ → Bool
+hides silences.Never status = false
+hides silences.Misses status = status == key_not_found
+hides silences.Successes status = status == success
+hides silences.Always status = true
+
+-- what an opcode asks for, and which of its replies aren't written
+pub record IsFormOf (opcode : ℕ) (form : Form) : Type 0 where
+  pub kind : kind_of opcode ≡ Ok form.kind
+  pub silence : (status : ℕ) → is_silent opcode status ≡ hides form.silence status
 
 -- the uuid and the sequence number of a mutation, where they are to be shown
 abbrev pub mutation_extras : Reply → Bool → List ℕ
@@ -72,3 +87,23 @@ abbrev pub reply_text : FrameData → Reply → List ℕ → Bool → List ℕ
 reply_text f reply value seqno_feature =
     if is_silent f.opcode reply.status then [] else
     if reply.status == success then kind_text f reply value seqno_feature (kind_of f.opcode) else status_text f reply.status
+
+-- how long the header, the extras and the key of a success are that shows the value behind them, and else nothing
+abbrev pub head_length : FrameData → Bool → Kind → ℕ
+head_length f seqno_feature (Get false) = 24 + 4 + 0
+head_length f seqno_feature (Get true) = 24 + 4 + length (key_of f)
+head_length f seqno_feature (Touch true) = 24 + 4 + 0
+head_length f seqno_feature (Touch false) = 0
+head_length f seqno_feature (Store kind) = 0
+head_length f seqno_feature (Join front) = 0
+head_length f seqno_feature Delete = 0
+head_length f seqno_feature (Count down) = 24 + (if seqno_feature then 16 else 0) + 0
+head_length f seqno_feature Observe = 24
+head_length f seqno_feature Failovers = 24
+head_length f seqno_feature GetState = 24
+head_length f seqno_feature Hello = 24
+head_length f seqno_feature Version = 24
+head_length f seqno_feature SetState = 0
+head_length f seqno_feature Stat = 0
+head_length f seqno_feature Noop = 0
+head_length f seqno_feature Quit = 0

@@ -11,12 +11,13 @@ mod read;
 mod shape;
 mod text;
 
+pub use kind::{Form, Kind, Silence};
 pub use laws::{
     each_opcode_is_served, quiet_reads_as_plain, refusals_are_written, reply_text_fits,
 };
 pub use op::{Bad, Op, OpData};
-pub use read::read_call;
-pub use text::{is_silent, put_status, put_value, reply_text};
+pub use read::{Reading, read_call};
+pub use text::{begin_reply, end_reply, put_status, put_value};
 
 #[cfg(test)]
 mod tests;

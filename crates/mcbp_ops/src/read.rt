@@ -6,16 +6,24 @@ ghost use Rattle.ep_model.specs.declared.data.CallData.TheVariants as calls;
 ghost use Rattle.byteorder.specs.Endian.{big_number};
 ghost use Rattle.mcbp_frame.specs.Frames.{frame_data};
 ghost use Rattle.mcbp_ops.specs.Table.{shape_of};
+ghost use Rattle.mcbp_ops.specs.Text.{IsFormOf};
 ghost use Rattle.mcbp_ops.specs.Checks.{extras_of, key_of, value_of, refusal_of};
-ghost use Rattle.mcbp_ops.specs.Ops.{IsWithinOp, op_data, result_data, made, op_of, call_result, state_of, state_number};
+ghost use Rattle.mcbp_ops.specs.Ops.{IsWithinOp, op_data, result_data, reading_data, made, op_of, call_result, state_of, state_number};
 
-use crate::kind::{Kind, kind_of};
+use crate::kind::{Form, Kind, form_of};
 use crate::op::{Bad, Op};
 use crate::parts::{Parts, parts_of};
 use crate::shape::{check_shape, shape_of};
 use byteorder::{BigEndian, ByteOrder};
 use ep_model::{Call, StoreKind, VbState};
 use mcbp_frame::Frame;
+
+/// What a frame asks for, with the form of its opcode, by which the reply is written.
+#[derive(Clone, Copy)]
+pub struct Reading<'a> {
+    pub op: Op<'a>,
+    pub form: Form,
+}
 
 // The state of a number.
 fn state_of(number: u32) -> Option<VbState>
@@ -117,17 +125,19 @@ fn make<'a>(kind: Kind, frame: &Frame<'a>) -> Result<Op<'a>, Bad>
 /// isn't served; a data type; extras and key that are longer than the body; a length of the extras, of the key or of
 /// the value that the opcode doesn't allow; a state that isn't one. The vBucket id isn't looked at. It takes constant
 /// time and copies nothing.
-pub fn read_call<'a>(frame: &Frame<'a>) -> Result<Op<'a>, Bad>
-    ensures op { result_data result ≡ op_of (frame_data frame.now) }
+pub fn read_call<'a>(frame: &Frame<'a>) -> Result<Reading<'a>, Bad>
+    ensures op { reading_data result ≡ op_of (frame_data frame.now) }
+    ensures form { IfOk result (λ reading. IsFormOf frame.now.opcode reading.form) }
 
     // A call's key and value have lengths that a call may carry.
-    ensures within { IfOk result (λ op. IsWithinOp (op_data op)) }
+    ensures within { IfOk result (λ reading. IsWithinOp (op_data reading.op)) }
 
     // The extras and the key of what isn't refused lie in the body.
     ensures parts { OnOk result (frame.now.extras_len + frame.now.key_len
         ≤ length frame.now.body.now) }
 {
-    let kind = kind_of(frame.opcode)?;
-    check_shape(frame, shape_of(kind))?;
-    make(kind, frame)
+    let form = form_of(frame.opcode)?;
+    check_shape(frame, shape_of(form.kind))?;
+    let op = make(form.kind, frame)?;
+    Ok(Reading { op, form })
 }

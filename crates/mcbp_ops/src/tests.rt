@@ -1,7 +1,8 @@
 // The table of opcodes and the texts of replies, with their numbers written out.
 ghost use Rattle.std.specs.Prelude.{◌≡◌, ◌≤◌, ◌+◌, length};
 
-use crate::{Bad, Op, is_silent, read_call, reply_text};
+use crate::kind::form_of;
+use crate::{Bad, Op, Reading, begin_reply, end_reply, read_call};
 use ep_model::{Call, Out, Reply, StoreKind, VbState};
 use mcbp_frame::Frame;
 use std::alloc::Global;
@@ -86,7 +87,7 @@ fn call_name(call: &Call) -> &'static str {
 }
 
 fn name_of(frame: &Frame) -> &'static str {
-    match read_call(frame) {
+    match read_call(frame).map(|reading| reading.op) {
         Ok(Op::Engine(call)) => call_name(&call),
         Ok(Op::Noop) => "Noop",
         Ok(Op::Version) => "Version",
@@ -221,7 +222,12 @@ fn heads_lie_in_the_body(rt: HostRuntime) {
 // The state that a frame's extras set.
 fn state_in(extras: &[u8]) -> Option<VbState> {
     match read_call(&frame(0x3d, 0, extras.len().min(255) as u8, 0, extras)) {
-        Ok(Op::Engine(Call::SetState { state })) => Some(state),
+        Ok(
+            Reading {
+                op: Op::Engine(Call::SetState { state }),
+                ..
+            },
+        ) => Some(state),
         _ => None,
     }
 }
@@ -251,7 +257,7 @@ fn calls_have_their_numbers(rt: HostRuntime) {
                 ..
             },
         ),
-    ) = read_call(&frame(0x05, 0, 20, 7, body))
+    ) = read_call(&frame(0x05, 0, 20, 7, body)).map(|reading| reading.op)
     else {
         panic!(rt; "an Increment is refused");
     };
@@ -331,23 +337,24 @@ const TEXTS: [Text; 12] = [
     ),
 ];
 
-// Appends the text of a reply where there is room for the longest.
-fn put_text(frame: &Frame, reply: &Reply, value: &[u8], seqno_feature: bool, out: &mut Out)
-    requires { 40 + frame.now.key_len + length value.now ≤ out.old.spare }
-{
-    reply_text(frame, reply, value, seqno_feature, out);
-}
-
-// Checks the text of the reply to a frame of the key `key`.
+// Checks the text of the reply to a frame of the key `key`, behind bytes that stay.
 fn check_text(rt: &impl Abort, alloc: Global, case: Text) -> Result<(), Fail> {
     let (opcode, status, seqno_feature, text) = case;
-    let mut out = Out::new(alloc, 64)?;
+    let mut out = Out::new(alloc, 128)?;
     let reply = Reply { status, ..STORED };
     let request = frame(opcode, 0, 0, 3, b"key");
-    put_text(&request, &reply, b"12345678", seqno_feature, &mut out);
-    assert_eq!(rt; out.bytes(), text, "opcode {opcode}");
+    let Ok(form) = form_of(opcode) else {
+        panic!(rt; "the opcode {opcode} is refused");
+    };
+    out.push(b"before");
+    let at = out.bytes().len();
+    begin_reply(&request, form, seqno_feature, &mut out);
+    out.push(b"12345678");
+    end_reply(&request, form, &reply, at, seqno_feature, &mut out);
+    assert_eq!(rt; &out.bytes()[..6], b"before".as_slice());
+    assert_eq!(rt; &out.bytes()[6..], text, "opcode {opcode}");
     assert_eq!(rt;
-        is_silent(opcode, status),
+        form.silence.hides(status),
         text.is_empty(),
         "opcode {opcode}"
     );

@@ -35,29 +35,29 @@ returns-in_err-answer_call-in-Engine-clause-err g c =
 
 pub returns-in-Answered-clause-answered : goal.returns-in-Answered-clause-answered
 returns-in-Answered-clause-answered g c =
-    answered_frame (frame_data c.args.frame.now) _ _ c.args.self.now _ c.sort_frame.new.self acts.Answered [] _ c.now-now.result c.now-now.ensures.told
+    answered_frame (frame_data c.args.frame.now) _ _ c.args.self.now _ c.sort.new.conn acts.Answered [] _ c.now-now.result c.now-now.ensures.told
     (λ k. c.now-now.ensures.next k ∙ ap (g.C.Clock.moment c.args.clock.now) (omega arith)) c.in-Answered.ensures.act (λ _. refl) (λ _. refl) refl
     c.in-Answered.ensures.text c.in-Answered.ensures.features refl (sym (append-nil _)) refl
 
 pub returns-in-Quit-clause-answered : goal.returns-in-Quit-clause-answered
 returns-in-Quit-clause-answered g c =
-    answered_frame (frame_data c.args.frame.now) _ _ c.args.self.now _ c.sort_frame.new.self acts.Quit [] _ c.now-now.result c.now-now.ensures.told
+    answered_frame (frame_data c.args.frame.now) _ _ c.args.self.now _ c.sort.new.conn acts.Quit [] _ c.now-now.result c.now-now.ensures.told
     (λ k. c.now-now.ensures.next k ∙ ap (g.C.Clock.moment c.args.clock.now) (omega arith)) c.in-Quit.ensures.act (λ _. refl) (λ _. refl) refl
     c.in-Quit.ensures.text c.in-Quit.ensures.features refl (sym (append-nil _)) refl
 
 pub returns-in-Stat-clause-answered : goal.returns-in-Stat-clause-answered
 returns-in-Stat-clause-answered g c =
-    answered_frame (frame_data c.args.frame.now) _ _ c.args.self.now _ c.sort_frame.new.self (acts.Stat c.in-Stat.field-0.now) (status_text (frame_data c.args.frame.now) key_not_found) _ c.now-now.result c.now-now.ensures.told
+    answered_frame (frame_data c.args.frame.now) _ _ c.args.self.now _ c.sort.new.conn (acts.Stat c.in-Stat.field-0.now) (status_text (frame_data c.args.frame.now) key_not_found) _ c.now-now.result c.now-now.ensures.told
     (λ k. c.now-now.ensures.next k ∙ ap (g.C.Clock.moment c.args.clock.now) (omega arith)) c.in-Stat.ensures.act (λ _. refl) (λ _. refl) refl
     c.in-Stat.ensures.text c.in-Stat.ensures.features refl c.put_status.ensures.bytes refl
 
 pub returns-in_ok-answer_call-in-Engine-clause-sound : goal.returns-in_ok-answer_call-in-Engine-clause-sound
 returns-in_ok-answer_call-in-Engine-clause-sound g c =
-    sound_after_call c.args.self.now _ c.sort_frame.new.self (frame_data c.args.frame.now) (call_data c.in-Engine.call) c.now-now.result c.requires.sound
-    c.in-Engine.ensures.room c.in-Engine.ensures.value c.in_ok-answer_call-in-Engine.ensures.called
+    sound_after_call c.args.self.now _ c.sort.new.conn (frame_data c.args.frame.now) (call_data c.in-Engine.call) c.now-now.result c.requires.sound
+    c.in-Engine.ensures.room c.in_ok-answer_call-in-Engine.ensures.called
 
 pub returns-in_ok-answer_call-in-Engine-clause-answered : goal.returns-in_ok-answer_call-in-Engine-clause-answered
 returns-in_ok-answer_call-in-Engine-clause-answered g c =
-    answered_call (frame_data c.args.frame.now) _ _ c.args.self.now _ c.sort_frame.new.self (call_data c.in-Engine.call) c.now-now.result c.now-now.ensures.told
+    answered_call (frame_data c.args.frame.now) _ _ c.args.self.now _ c.sort.new.conn (call_data c.in-Engine.call) c.now-now.result c.now-now.ensures.told
     (λ k. c.now-now.ensures.next k ∙ ap (g.C.Clock.moment c.args.clock.now) (omega arith)) c.in-Engine.ensures.act
     c.in-Engine.ensures.text c.in-Engine.ensures.features c.in_ok-answer_call-in-Engine.ensures.called
