@@ -8,6 +8,7 @@ mod op;
 pub mod opcodes;
 mod parts;
 mod read;
+mod reply;
 mod shape;
 mod text;
 
@@ -17,6 +18,7 @@ pub use laws::{
 };
 pub use op::{Bad, Op, OpData};
 pub use read::{Reading, read_call};
+pub use reply::{is_silent, reply_text};
 pub use text::{begin_reply, end_reply, put_status, put_value};
 
 #[cfg(test)]

@@ -1,4 +1,4 @@
-// The text of a reply.
+// Responses, and the text of a reply whose value is put where it stays.
 ghost use Rattle.std.specs.Prelude.{◌≡◌, ◌+◌, ◌<◌, ◌≤◌, ◌^◌, ◌++◌, [], length, take, drop};
 ghost use Rattle.byteorder.specs.Endian.{big_bytes};
 ghost use Rattle.mcbp_frame.specs.Frames.{frame_data};
@@ -12,7 +12,7 @@ use ep_model::{Out, Reply};
 use mcbp_frame::{Frame, HEADER, put_head, put_response};
 
 // Appends a response to a frame, of no data type.
-fn put(out: &mut Out, frame: &Frame, status: u16, cas: u64, extras: &[u8], key: &[u8], value: &[u8])
+pub(crate) fn put(out: &mut Out, frame: &Frame, status: u16, cas: u64, extras: &[u8], key: &[u8], value: &[u8])
     requires spare { length (answer_text (frame_data frame.now) status cas extras.now key.now
         value.now) ≤ out.old.spare }
     requires extras_fit { length extras.now < 2 ^ 8 }
@@ -53,7 +53,7 @@ pub fn put_value(out: &mut Out, frame: &Frame, value: &[u8])
 }
 
 // The uuid and the sequence number of a mutation.
-fn stamp_of(reply: &Reply) -> [u8; 16]
+pub(crate) fn stamp_of(reply: &Reply) -> [u8; 16]
     ensures { result ≡ big_bytes 8 reply.now.uuid ++ big_bytes 8 reply.now.seqno }
 {
     let mut stamp = [0; 16];
