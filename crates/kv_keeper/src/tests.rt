@@ -88,8 +88,14 @@ impl Broken {
 impl Keeper for Broken {
     ghost use Rattle.std.specs.Prelude.{None, false};
 
-    ghost seen = { λ b. record { content = None; second = None; sure = b.sure; faults = b.faults;
-        ample = false; roomy = false } };
+    ghost seen = { λ b. record {
+      content = None;
+      second = None;
+      sure = b.sure;
+      faults = b.faults;
+      ample = false;
+      roomy = false;
+    } };
 
     fn state(&mut self, _alloc: Global) -> Kept<StoreState> {
         self.fail()

@@ -60,8 +60,11 @@ impl Model for Feeder {
 
     ghost Value = { FeederData };
 
-    ghost view = { λ f. record { at = f.at; rest = take (f.end - f.start)
-        (drop f.start f.buffer.items) } };
+    ghost view = { λ f. record {
+      at = f.at;
+      rest = take (f.end - f.start)
+          (drop f.start f.buffer.items);
+    } };
 
     ghost invariant = { λ f. (f.start ≤ f.end) × (f.end ≤ length f.buffer.items)
         × (length f.buffer.items ≡ feeder_room)

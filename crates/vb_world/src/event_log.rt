@@ -129,8 +129,10 @@ fn keep_two(bytes: &mut Vec<u8>, key: &[u8], value: &[u8]) -> Result<(Span, Span
     ensures kept { IfOk result (λ spans. (bytes.new.items ≡ (bytes.old.items ++ key.now)
         ++ value.now)
         × (spans.0 ≡ record { from = length bytes.old.items; len = length key.now })
-        × (spans.1 ≡ record { from = length bytes.old.items + length key.now;
-        len = length value.now })) }
+        × (spans.1 ≡ record {
+          from = length bytes.old.items + length key.now;
+          len = length value.now;
+        })) }
     ensures err { OnErr result (Extends bytes.old.items bytes.new.items) }
     ensures room { vec_len bytes.old + (length key.now + length value.now) ≤ vec_capacity bytes.old
         → IsOk result }
