@@ -74,6 +74,7 @@ module _ (f : FrontData) (event : EventData) (desk : DeskData) (legal : IsLegal 
   noted_later noted is low fault = record {
     noted = is;
     low = low;
+    sure = s.sure;
     top = λ some. let a = s.top some in let b = high_rises f event in omega arith;
     doubt = λ some. doubt_later desk.doubt (s.doubt some);
     faults = all_append (IsFaultWithin desk.read_faults) f.events (event ∷ []) s.faults (fault, tt);
@@ -87,7 +88,7 @@ module _ (f : FrontData) (event : EventData) (desk : DeskData) (legal : IsLegal 
       → DeskStands (with_event f event) desk
   same_later same fault =
       let d = noted_later desk.noted (s.noted ∙ sym same) s.low fault in
-      record { noted = d.noted; low = d.low; top = d.top; doubt = d.doubt; faults = d.faults; shown = λ some told. let h = d.shown some told in record { tells = h.tells; both = h.both; holds = h.holds } }
+      record { noted = d.noted; low = d.low; sure = d.sure; top = d.top; doubt = d.doubt; faults = d.faults; shown = λ some told. let h = d.shown some told in record { tells = h.tells; both = h.both; holds = h.holds } }
 
   batch_later : (batch : BatchData) → (world_of (with_event f event)).persisted < batch.to → BatchStands f desk batch
       → BatchStands (with_event f event) desk batch

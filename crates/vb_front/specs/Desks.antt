@@ -1,5 +1,5 @@
 -- What a desk and a batch are to a history. What they say of documents stands under `shown`, as far as the start's are known.
-use Rattle.std.specs.Prelude.{◌≡◌, ◌⊎◌, ℕ, ◌<◌, ◌≤◌, true, Option, Some, None, IfSome, IsSome}
+use Rattle.std.specs.Prelude.{◌≡◌, ◌⊎◌, ℕ, ◌<◌, ◌≤◌, true, Option, Some, None, IfSome, IsSome, is_none}
 use Rattle.std.specs.List.{AllByRecursion}
 use Rattle.ep_model.specs.declared.data.EventData.{EventData}
 use Rattle.ep_model.specs.declared.data.EventData.TheVariants as events
@@ -48,12 +48,14 @@ pub record IsDoubtWithin (f : FrontData) (stored doubt : ℕ) : Type 0 where
 -- A desk stands for a history.
 -- `noted`: what was told to be stored;
 -- `low`: the store is known to hold no less;
+-- `sure`: it is unsure exactly where a number is in doubt;
 -- `top`, `doubt`: once there is a start, no more than there is, and so for what is in doubt since a commit failed;
 -- `faults`: each failed read that was told is among those that were counted;
 -- `shown`: once there is a start whose documents are known, what the store tells.
 pub record DeskStands (f : FrontData) (desk : DeskData) : Type 0 where
   pub noted : desk.noted ≡ (world_of f).persisted
   pub low : desk.noted ≤ desk.stored
+  pub sure : desk.keeper.sure ≡ is_none desk.doubt
   pub top : IsSome f.start → desk.stored ≤ (world_of f).high
   pub doubt : IsSome f.start → IfSome desk.doubt (IsDoubtWithin f desk.stored)
   pub faults : AllByRecursion (IsFaultWithin desk.read_faults) f.events
