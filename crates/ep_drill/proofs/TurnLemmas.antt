@@ -158,10 +158,10 @@ caller_told old config w benches callers place told caller is here at =
 
 -- what a core answers of a caller's turn
 pub fronted_at : {K : Type 0} {E : Type 0} (old : CoreData) (config : Config) (w z : WorldData Part) (benches : List (Bench K)) (callers : List Caller) (place number told now : ℕ) (caller after : Caller) (value : List ℕ)
-    (result : Result (Option Step) E) → core_data config w benches callers ≡ old → place ≡ told → number ≡ told → slice_get callers place ≡ Some caller
+    (result : Result (Option Step) E) → core_data config w benches callers ≡ old → place ≡ told → number ≡ told → slice_get callers place ≡ Some caller → IsMoment now
     → IfOk result (Turned config number now w z (caller_data caller) (caller_data after) value) → IfOk (answer_of result) (IsFronted old (core_data config z benches (slice_set callers place after)) told now)
-fronted_at old config w z benches callers place number told now caller after value (Err e) is here its at ok = tt
-fronted_at old config w z benches callers place number told now caller after value (Ok None) is here its at ok =
+fronted_at old config w z benches callers place number told now caller after value (Err e) is here its at early ok = tt
+fronted_at old config w z benches callers place number told now caller after value (Ok None) is here its at early ok =
     let first : CoreData = core_data config w benches callers in
     let kept : map caller_data (slice_set callers place after) ≡ map caller_data callers = callers_kept callers place caller after at ok.1 in
     let same : core_data config z benches (slice_set callers place after) ≡ first =
@@ -169,7 +169,7 @@ fronted_at old config w z benches callers place number told now caller after val
       same ∙ is,
       NoCall (caller_data caller) (caller_told old config w benches callers place told caller is here at) ok.2,
     )
-fronted_at old config w z benches callers place number told now caller after value (Ok (Some step)) is here its at ok =
+fronted_at old config w z benches callers place number told now caller after value (Ok (Some step)) is here its at early ok =
     let first : CoreData = core_data config w benches callers in
     let last : CoreData = core_data config z benches (slice_set callers place after) in
     let list : last.callers ≡ slice_set first.callers told (after_step step (caller_data caller)) =
@@ -179,6 +179,7 @@ fronted_at old config w z benches callers place number told now caller after val
       call = ok.0;
       step = step;
       value = value;
+      moment = early;
       before = subst (λ (k : ℕ). slice_get first.callers k ≡ Some (caller_data caller)) here (get_told caller_data callers place caller at);
       next = ok.1;
       says = refl;

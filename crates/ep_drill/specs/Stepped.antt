@@ -26,12 +26,13 @@ use Rattle.ep_drill.specs.Tries.{ComesTo}
 use Rattle.ep_drill.specs.Core.{Moved, Rested, Interleaves, GoesOn, LacksRoom, NextMayWant}
 use Rattle.ep_drill.specs.Works.{TakesAt, CommitsAt, MarksAt, FetchesAt, MergesAt}
 
--- A caller's next call was tried, with this answer, and its event is noted where it has one. Nothing else changed.
+-- A caller's next call was tried at a moment of a step, with this answer, and its event is noted where it has one. Nothing else changed.
 pub record WasTried (old new : CoreData) (number now : ℕ) (tried : Tried) : Type 0 where
   pub caller : CallerData
   pub call : ℕ × CallData
   pub step : Step
   pub value : List ℕ
+  pub moment : now < end_of_moments
   pub before : slice_get old.callers number ≡ Some caller
   pub next : next_of caller ≡ Some call
   pub says : tried ≡ tried_of step

@@ -67,7 +67,7 @@ returns-clause-fronted g c =
     let within : c.from.result < vec_len o.callers = c.in-Some.ensures.variant.0 refl in
     let at : slice_get o.callers.items c.from.result ≡ Some c.in-Some.caller.now = slice_get_read o.callers.items (vec_len o.callers) c.from.result c.in-Some.caller.now count within c.in-Some.ensures.value in
     let f = fronted_at c.args.self.now o.config o.world t.new.world o.benches.items o.callers.items c.from.result c.from-2.result c.args.number c.args.now c.in-Some.caller.now t.new.caller t.new.value.bytes t.result
-    c.self.view_is c.from.ensures c.from-2.ensures at t.ensures.ok in
+    c.self.view_is c.from.ensures c.from-2.ensures at (search rules) t.ensures.ok in
     subst (λ (r : Result Answer NoMemory). IfOk r (IsFronted c.args.self.now (core_data o.config t.new.world o.benches.items (slice_set o.callers.items c.from.result t.new.caller)) c.args.number c.args.now)) (sym c.answer_of.ensures) f
 
 pub returns-clause-err : goal.returns-clause-err
