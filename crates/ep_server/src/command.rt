@@ -44,8 +44,12 @@ pub fn run<R: Source, W: Sink, C: Clock>(
     clock: &mut C,
 ) -> End
     ensures ends { IfOk words (λ words. EndsCommand (map string_bytes words.items)
-        (outside (R.left source.old) (R.left_before source.old) (R.has_ended source.old) (R.ended_before source.old) (R.faults source.old) (W.held sink.old) (W.last_offer sink.old) (W.faults sink.old) (C.moment clock.old))
-        (outside (R.left source.new) (R.left_before source.new) (R.has_ended source.new) (R.ended_before source.new) (R.faults source.new) (W.held sink.new) (W.last_offer sink.new) (W.faults sink.new) (C.moment clock.new))
+        (outside (R.left source.old) (R.left_before source.old) (R.has_ended source.old)
+        (R.ended_before source.old) (R.faults source.old) (W.held sink.old)
+        (W.last_offer sink.old) (W.faults sink.old) (C.moment clock.old))
+        (outside (R.left source.new) (R.left_before source.new) (R.has_ended source.new)
+        (R.ended_before source.new) (R.faults source.new) (W.held sink.new)
+        (W.last_offer sink.new) (W.faults sink.new) (C.moment clock.new))
         ((source.new ≡ source.old) × (sink.new ≡ sink.old) × (clock.new ≡ clock.old)) result) }
     ensures unread { IfErr words (λ end. result ≡ end) }
     ensures refused { result ≡ End.BadWords → (source.new ≡ source.old) × (sink.new ≡ sink.old)

@@ -19,11 +19,11 @@ use Rattle.ep_top.specs.declared.end.End.TheVariants as ends
 use Rattle.ep_top.specs.declared.responder.Responder.{Responder}
 use Rattle.conn_core.specs.declared.hello.Features.{Features}
 use Rattle.conn_core.specs.Exchange.{Exchange}
-use Rattle.ep_top.specs.Exchange.{event_of, texts_of}
+use Rattle.ep_top.specs.Exchange.{session_event, texts_of}
 use Rattle.ep_top.specs.Responder.{session_config, IsLegalHistory}
 use Rattle.ep_top.specs.Outside.{Outside, IsReadNoMore}
 use Rattle.ep_top.specs.Stand.{most_pending, Stand, LastFails, bytes_of, Advances, Writes, BeginsWithFrame, is_quit_end}
-use Rattle.ep_top.specs.Session.{HasEnded, is_cut, Comes, IsNoted, EndsUnopened, IsSession, begin, no_features, ReadsInTurn, Stops, Written, Lost, Broken, Finishes}
+use Rattle.ep_top.specs.Session.{HasEnded, is_cut, EndIsDue, IsNoted, EndsUnopened, IsSession, begin, no_features, ReadsInTurn, Stops, Written, Lost, Broken, Finishes}
 use Rattle.ep_top.proofs.StandLemmas.{serves_then, serves_then-served, serves_then-written, serves_writes, serves_writes-served, serves_writes-written, fails_here, appends_nothing, rose_from}
 use Rattle.ep_top.proofs.SessionLemmas.{takes_nothing}
 
@@ -34,7 +34,7 @@ divides_after (frame ∷ frames) {text} {later} {rest} each d =
     subst (λ (t : List ℕ). Divides t (frame ∷ (frames ++ later)) rest) (sym (append_assoc frame (concat frames) text)) (divides-cons frame each.0 (divides_after frames each.1 d))
 
 -- once it opened, the history is told by what was served, whatever the end
-noted_from : (end : End) (history : List (ℕ × EventData)) (served : List Exchange) → end ≢ ends.BadWords → history ≡ (0, Opened) ∷ flat_map event_of served → IsNoted end history served
+noted_from : (end : End) (history : List (ℕ × EventData)) (served : List Exchange) → end ≢ ends.BadWords → history ≡ (0, Opened) ∷ flat_map session_event served → IsNoted end history served
 noted_from ends.BadWords history served not e = absurd (not refl)
 noted_from ends.NoMemory history served not e = inr e
 noted_from (ends.BadMagic at) history served not e = e
@@ -58,7 +58,7 @@ session_from : (before now : Outside) (end : End) (history : List (ℕ × EventD
     → (p : Advances (begin before taken) (record { rest = rest; history = history; pending = pending; held = now.held; moment = moment; features = features; quit = quit }))
     → Divides taken (bytes_of p.served ++ unserved) left → (is_cut end ≡ false → quit ≡ false → unserved ≡ [])
     → extra ≤ 1 → (is_cut end ≡ false → extra ≡ 0) → (quit ≡ true → extra ≡ 0) → (extra ≢ 0 → unserved ≢ []) → (end ≡ ends.NoMemory → unserved ≢ []) → ((k : ℕ) → now.moment k ≡ moment (extra + k)) → (end ≢ ends.WriteFault → pending ≡ [])
-    → IsLegalHistory history → end ≢ ends.BadWords → Comes before now taken left quit end
+    → IsLegalHistory history → end ≢ ends.BadWords → EndIsDue before now taken left quit end
     → ReadsInTurn before now taken p.served p.written → (end ≢ ends.ReadFault → now.read_faults ≡ before.read_faults) → (end ≢ ends.WriteFault → now.write_faults ≡ before.write_faults)
     → (end ≡ ends.WriteFault → LastFails (begin before taken) before.write_faults p.served now.last_offer)
     → (end ≡ ends.WriteFault → now.last_offer.count ≤ most_pending → quit ≡ false → extra ≡ 0 → unserved ≡ []) → (end ≡ ends.WriteFault → most_pending < now.last_offer.count → extra ≡ 0)
@@ -106,7 +106,7 @@ nothing_is_partial : (rest : List ℕ) → rest ≡ [] → IsPartial rest
 nothing_is_partial rest e = subst (λ (l : List ℕ). IsPartial l) (sym e) (record { magic = λ h. absurd (omega arith); body = λ h. absurd (omega arith); short = λ h. absurd (omega arith) })
 
 -- an end that comes behind all whole frames leaves a rest that begins with none
-rest_from : (end : End) (before now : Outside) (taken rest : List ℕ) (quit : Bool) → end ≢ ends.BadWords → is_cut end ≡ false → quit ≡ false → Comes before now taken rest quit end → IsRest rest
+rest_from : (end : End) (before now : Outside) (taken rest : List ℕ) (quit : Bool) → end ≢ ends.BadWords → is_cut end ≡ false → quit ≡ false → EndIsDue before now taken rest quit end → IsRest rest
 rest_from ends.BadWords before now taken rest quit not cut none h = absurd (not refl)
 rest_from ends.NoMemory before now taken rest quit not cut none h = cc
 rest_from (ends.BadMagic at) before now taken rest quit not cut none h = inr (inl h.0)
@@ -122,7 +122,7 @@ rest_from ends.Closed before now taken rest quit not cut none h = inl (nothing_i
 abbrev is_between : End → Bool → Bool
 is_between end quit = is_cut end || quit
 
-comes_anywhere : (end : End) (before now : Outside) (taken rest left : List ℕ) (quit : Bool) → is_cut end || quit ≡ true → Comes before now taken rest quit end → Comes before now taken left quit end
+comes_anywhere : (end : End) (before now : Outside) (taken rest left : List ℕ) (quit : Bool) → is_cut end || quit ≡ true → EndIsDue before now taken rest quit end → EndIsDue before now taken left quit end
 comes_anywhere ends.BadWords before now taken rest left quit cut h = h
 comes_anywhere ends.NoMemory before now taken rest left quit cut h = h
 comes_anywhere (ends.BadMagic at) before now taken rest left quit cut h = let none = h.2 in cc
@@ -155,7 +155,7 @@ session_of : (before now : Outside) (end : End) (history : List (ℕ × EventDat
     → TakesBytes before.left now.left taken
     → (p : Advances (begin before taken) (record { rest = rest; history = history; pending = pending; held = now.held; moment = moment; features = features; quit = quit }))
     → extra ≤ 1 → (is_cut end ≡ false → extra ≡ 0) → (quit ≡ true → extra ≡ 0) → (extra ≢ 0 → BeginsWithFrame rest) → (end ≡ ends.NoMemory → BeginsWithFrame rest) → ((k : ℕ) → now.moment k ≡ moment (extra + k)) → (end ≢ ends.WriteFault → pending ≡ [])
-    → IsLegalHistory history → end ≢ ends.BadWords → Comes before now taken rest quit end
+    → IsLegalHistory history → end ≢ ends.BadWords → EndIsDue before now taken rest quit end
     → ReadsInTurn before now taken p.served p.written → (end ≢ ends.ReadFault → now.read_faults ≡ before.read_faults) → (end ≢ ends.WriteFault → now.write_faults ≡ before.write_faults)
     → (end ≡ ends.WriteFault → LastFails (begin before taken) before.write_faults p.served now.last_offer)
     → (end ≡ ends.WriteFault → now.last_offer.count ≤ most_pending → quit ≡ false → extra ≡ 0 → IsRest rest) → (end ≡ ends.WriteFault → most_pending < now.last_offer.count → extra ≡ 0)
@@ -197,7 +197,7 @@ has_ended_later mid now taken left ended h = record { ended = ended ∙ h.ended;
 
 -- only the sink changed since
 comes_later : (end : End) (before mid now : Outside) (taken rest : List ℕ) (quit : Bool) → now.left ≡ mid.left → now.has_ended ≡ mid.has_ended → now.read_faults ≡ mid.read_faults → now.write_faults ≡ mid.write_faults
-    → Comes before mid taken rest quit end → Comes before now taken rest quit end
+    → EndIsDue before mid taken rest quit end → EndIsDue before now taken rest quit end
 comes_later ends.BadWords before mid now taken rest quit left ended read write h = h
 comes_later ends.NoMemory before mid now taken rest quit left ended read write h = h
 comes_later (ends.BadMagic at) before mid now taken rest quit left ended read write h = h
@@ -238,7 +238,7 @@ session_written before mid now end final responder s w left earlier ended read m
 
 -- an end that leaves answers to be written comes where no whole frame is left, behind a Quit, or where memory was wanting
 rest_left : (end : End) (before now : Outside) (taken rest : List ℕ) (extra : ℕ) → end ≢ ends.BadWords → end ≢ ends.WriteFault → (end ≡ ends.NoMemory → extra ≡ 1) → is_quit_end end ≡ false → extra ≡ 0
-    → Comes before now taken rest (is_quit_end end) end → IsRest rest
+    → EndIsDue before now taken rest (is_quit_end end) end → IsRest rest
 rest_left ends.BadWords before now taken rest extra not able short none zero h = absurd (not refl)
 rest_left ends.NoMemory before now taken rest extra not able short none zero h = absurd (let one = short refl in omega arith)
 rest_left (ends.BadMagic at) before now taken rest extra not able short none zero h = inr (inl h.0)
@@ -326,7 +326,7 @@ unopened_noted ends.WriteFault opens = absurd opens
 unopened_noted ends.Quit opens = absurd opens
 unopened_noted ends.Closed opens = absurd opens
 
-unopened_comes : (before : Outside) (end : End) → EndsUnopened end → Comes before before [] [] false end
+unopened_comes : (before : Outside) (end : End) → EndsUnopened end → EndIsDue before before [] [] false end
 unopened_comes before ends.BadWords opens = (refl, refl)
 unopened_comes before ends.NoMemory opens = refl
 unopened_comes before (ends.BadMagic at) opens = absurd opens
@@ -342,7 +342,7 @@ unopened_able : (end : End) → EndsUnopened end → end ≢ ends.WriteFault
 unopened_able end opens e = subst (λ (x : End). EndsUnopened x) e opens
 
 -- a session that didn't begin took, served and wrote nothing
-pub session_none : (before : Outside) (end : End) → end ≢ ends.WriteFault → IsNoted end [] [] → Comes before before [] [] false end → IsSession before before end []
+pub session_none : (before : Outside) (end : End) → end ≢ ends.WriteFault → IsNoted end [] [] → EndIsDue before before [] [] false end → IsSession before before end []
 session_none before end able noted comes = record {
   taken = [];
   frames = [];

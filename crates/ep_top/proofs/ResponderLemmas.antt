@@ -30,7 +30,7 @@ use Rattle.ep_top.specs.declared.responder.Responder.{Responder}
 use Rattle.ep_top.specs.AnswersCall.{AnswersCall}
 use Rattle.conn_core.specs.Exchange.{act_event, act_text, is_quit}
 use Rattle.ep_top.specs.Exchange.{vbuckets, only_caller, act_in}
-use Rattle.ep_top.specs.Responder.{session_config, session_front, IsLegalHistory, IsSound, Responds}
+use Rattle.ep_top.specs.Responder.{session_config, session_front, IsLegalHistory, ResponderIsSound, Responds}
 
 -- a session's documents are known
 is_told : (events : List EventData) → (world_of (session_front events)).told ≡ true
@@ -77,9 +77,9 @@ opened-apply w (Puts key doc) = refl
 opened-apply w (Sets state) = refl
 
 -- the responder stays sound behind a call
-pub sound_after_call : (old new : Responder) (sorted : Conn) (frame : FrameData) (call : CallData) (now : ℕ) → IsSound old
+pub sound_after_call : (old new : Responder) (sorted : Conn) (frame : FrameData) (call : CallData) (now : ℕ) → ResponderIsSound old
     → sorted.out.spare + length sorted.out.bytes ≡ old.conn.out.spare + length old.conn.out.bytes
-    → AnswersCall frame call now old.plain new.plain old.history new.history sorted new.conn → IsSound new
+    → AnswersCall frame call now old.plain new.plain old.history new.history sorted new.conn → ResponderIsSound new
 sound_after_call old new sorted frame call now s room c = record {
   world =
       c.world ∙ world_after_call old.plain (events_of 0 old.history) 0 now call c.reply c.value s.world
@@ -147,7 +147,7 @@ empty_room o none = ap (λ (l : List ℕ). o.spare + length l) none ∙ add-zero
 
 -- a responder that has opened and did nothing else
 pub sound_fresh : (f : Responder) → f.history ≡ [] ++ (0, Opened) ∷ [] → f.plain ≡ record (begun (session_front [])) { opened = true }
-    → IsNew f.conn → f.conn.out.spare ≡ out_room → IsSound f
+    → IsNew f.conn → f.conn.out.spare ≡ out_room → ResponderIsSound f
 unfolding May
 sound_fresh f noted plain new out = record {
   world = plain ∙ ap (λ (l : List EventData). world_of (session_front l)) (sym (events_after [] f.history Opened noted));

@@ -10,7 +10,7 @@ use Rattle.conn_core.specs.declared.hello.Features.{Features}
 use Rattle.ep_top.specs.declared.end.End.{End}
 use Rattle.ep_top.specs.declared.end.End.TheVariants as ends
 use Rattle.ep_top.specs.declared.responder.Responder.{Responder}
-use Rattle.ep_top.specs.Responder.{IsLegalHistory, IsSound, IsFresh}
+use Rattle.ep_top.specs.Responder.{IsLegalHistory, ResponderIsSound, ResponderIsFresh}
 use Rattle.conn_core.specs.Exchange.{Exchange}
 use Rattle.ep_top.specs.Exchange.{StopsAtQuit}
 use Rattle.ep_top.specs.Outside.{Outside, BeganAt}
@@ -18,7 +18,7 @@ use Rattle.mcbp_frame.specs.Piece.{Feeds}
 use Rattle.mcbp_frame.specs.Stream.{HasCut}
 use Rattle.mcbp_frame.proofs.StreamLemmas.{stream_divides}
 use Rattle.ep_top.specs.Stand.{stand, bytes_of, Advances, Breaks, BeginsWithFrame, HasStopped, is_quit_end}
-use Rattle.ep_top.specs.Session.{most_taken, HasEnded, Comes, begin, ReadsInTurn, LastRead, Progress, Stops, EndsAt}
+use Rattle.ep_top.specs.Session.{most_taken, HasEnded, EndIsDue, begin, ReadsInTurn, LastRead, Progress, Stops, EndsAt}
 use Rattle.ep_top.proofs.StandLemmas.{serves_then, serves_then-served, serves_then-written, fails_then, rose_from, appends_nothing}
 
 pub or_false : (b : Bool) → (b || false) ≡ b
@@ -85,7 +85,7 @@ last_read before mid now count rest responder p taken piece served later written
 pub progress_more : (before mid now : Outside) (count n : ℕ) (rest fed rest' : List ℕ) (responder responder' : Responder)
     → Progress before mid count rest responder → Feeds (got.Bytes n) rest fed mid.left now.left
     → Advances (stand fed responder mid.held mid.moment false) (stand rest' responder' now.held now.moment false)
-    → IsSound responder' → IsPartial rest' → responder'.conn.out.bytes ≡ [] → now.has_ended ≡ mid.has_ended → now.read_faults ≡ mid.read_faults → now.write_faults ≡ mid.write_faults → BeganAt mid now → count < most_taken
+    → ResponderIsSound responder' → IsPartial rest' → responder'.conn.out.bytes ≡ [] → now.has_ended ≡ mid.has_ended → now.read_faults ≡ mid.read_faults → now.write_faults ≡ mid.write_faults → BeganAt mid now → count < most_taken
     → Progress before now (count + n) rest' responder'
 progress_more before mid now count n rest fed rest' responder responder' p f s sound partial written going read write left under = record {
   taken = p.taken ++ f.piece;
@@ -103,7 +103,7 @@ progress_more before mid now count n rest fed rest' responder responder' p f s s
 
 -- why serving stopped is how the session ends
 comes_from : (end : End) (before now : Outside) (taken rest kept : List ℕ) (at : ℕ) (rose : Type 0) → (rose → RoseByOne before.write_faults now.write_faults) → at + length kept ≡ length taken
-    → HasStopped end rest kept at rose → Comes before now taken rest (is_quit_end end) end
+    → HasStopped end rest kept at rose → EndIsDue before now taken rest (is_quit_end end) end
 comes_from ends.BadWords before now taken rest kept at rose f place h = absurd h
 comes_from ends.NoMemory before now taken rest kept at rose f place h = refl
 comes_from (ends.BadMagic t) before now taken rest kept at rose f place h = (h.0, omega (arith, ap (λ (l : List ℕ). length l) h.1, h.2), refl)
@@ -160,7 +160,7 @@ stops_in_frames end before mid now count n at rest fed rest' responder responder
 
 -- a session stops where all whole frames were answered, and nothing more was taken
 stops_here : (end : End) (before mid now : Outside) (count : ℕ) (rest : List ℕ) (responder : Responder) (p : Progress before mid count rest responder)
-    → TakesBytes before.left now.left p.taken → now.held ≡ mid.held → ((k : ℕ) → now.moment k ≡ mid.moment k) → end ≢ ends.BadWords → end ≢ ends.NoMemory → end ≢ ends.WriteFault → is_quit_end end ≡ false → Comes before now p.taken rest (is_quit_end end) end
+    → TakesBytes before.left now.left p.taken → now.held ≡ mid.held → ((k : ℕ) → now.moment k ≡ mid.moment k) → end ≢ ends.BadWords → end ≢ ends.NoMemory → end ≢ ends.WriteFault → is_quit_end end ≡ false → EndIsDue before now p.taken rest (is_quit_end end) end
     → ReadsInTurn before now p.taken p.serves.served p.serves.written → (end ≢ ends.ReadFault → now.read_faults ≡ before.read_faults) → now.write_faults ≡ mid.write_faults
     → Stops before now end responder
 stops_here end before mid now count rest responder p takes held moment served enough able none comes reads reading write = record {
@@ -227,7 +227,7 @@ fed_nothing : (rest fed piece : List ℕ) → fed ≡ rest ++ piece → length p
 fed_nothing rest fed piece e none = e ∙ ap (λ l. rest ++ l) (no_bytes piece none) ∙ append-nil rest
 
 ends_from : (end : End) (before now : Outside) (taken rest : List ℕ) (held : FeederData) → HasEnded now taken → IsPartial rest → held.rest ≡ rest → held.at + length rest ≡ length taken
-    → EndsAt held end → Comes before now taken rest (is_quit_end end) end
+    → EndsAt held end → EndIsDue before now taken rest (is_quit_end end) end
 ends_from ends.BadWords before now taken rest held ended partial same place h = absurd h
 ends_from ends.NoMemory before now taken rest held ended partial same place h = absurd h
 ends_from (ends.BadMagic t) before now taken rest held ended partial same place h = absurd h
@@ -275,7 +275,7 @@ pub feeds_length : (n : ℕ) (old new : List ℕ) (left now : Option (List ℕ))
 feeds_length n old new left now f = omega (arith, ap (λ (l : List ℕ). length l) f.fed, length-append old f.piece, f.count)
 
 -- a session begins with nothing taken
-pub progress_none : (before : Outside) (rest : List ℕ) (responder : Responder) → rest ≡ [] → IsFresh responder → IsSound responder → Progress before before 0 rest responder
+pub progress_none : (before : Outside) (rest : List ℕ) (responder : Responder) → rest ≡ [] → ResponderIsFresh responder → ResponderIsSound responder → Progress before before 0 rest responder
 progress_none before rest responder none fresh sound = record {
   taken = [];
   counted = refl;

@@ -20,9 +20,9 @@ use Rattle.ep_top.specs.declared.end.End.{End}
 use Rattle.ep_top.specs.declared.end.End.TheVariants as ends
 use Rattle.ep_top.specs.declared.responder.Responder.{Responder}
 use Rattle.conn_core.specs.Exchange.{Exchange, features_of, is_quit, frame_of, AreMoments}
-use Rattle.ep_top.specs.Exchange.{event_of, text_of, texts_of, act_in, StopsAtQuit}
+use Rattle.ep_top.specs.Exchange.{session_event, text_of, texts_of, act_in, StopsAtQuit}
 use Rattle.ep_top.specs.Responder.{Responds, KeepsAllButAnswers}
-use Rattle.ep_top.specs.Stand.{most_pending, but_last, Waited, Stand, stand, bytes_of, Advances, Writes, LosesSome, LastFails, BeginsWithFrame, is_quit_end, HasStopped, Breaks}
+use Rattle.ep_top.specs.Stand.{most_pending, but_last, AnswersWaited, Stand, stand, bytes_of, Advances, Writes, LosesSome, LastFails, BeginsWithFrame, is_quit_end, HasStopped, Breaks}
 
 pub appends_nothing : (held : Option (List ℕ)) → Appends held held []
 appends_nothing None = refl
@@ -71,14 +71,14 @@ but_last-append : (x y : Exchange) (xs ys : List Exchange) → but_last x (xs ++
 but_last-append x y [] ys = refl
 but_last-append x y (z ∷ zs) ys = ap (λ l. x ∷ l) (but_last-append z y zs ys)
 
-waited_longer : (pending : List ℕ) (features : Features) (xs : List Exchange) (m n : ℕ) → m ≤ n → Waited pending features xs m → Waited pending features xs n
+waited_longer : (pending : List ℕ) (features : Features) (xs : List Exchange) (m n : ℕ) → m ≤ n → AnswersWaited pending features xs m → AnswersWaited pending features xs n
 waited_longer pending features [] m n le w = tt
 waited_longer pending features (x ∷ xs) m n le w = omega arith
 
 -- what had waited before the first of some frames, and what before the first of those behind them
 waited_behind : (pending middle : List ℕ) (features : Features) (x : Exchange) (xs : List Exchange) (y : Exchange) (ys : List Exchange) (v w : List ℕ)
-    → v ++ middle ≡ pending ++ texts_of features (x ∷ xs) → Waited middle (features_of features (x ∷ xs)) (y ∷ ys) (length w)
-    → Waited pending features ((x ∷ xs) ++ y ∷ ys) (length (v ++ w))
+    → v ++ middle ≡ pending ++ texts_of features (x ∷ xs) → AnswersWaited middle (features_of features (x ∷ xs)) (y ∷ ys) (length w)
+    → AnswersWaited pending features ((x ∷ xs) ++ y ∷ ys) (length (v ++ w))
 waited_behind pending middle features x xs y ys v w texts waited =
     let all : length (texts_of features (but_last x (xs ++ y ∷ ys))) ≡ length (texts_of features (x ∷ xs)) + length (texts_of (features_of features (x ∷ xs)) (but_last y ys)) =
     ap (λ l. length (texts_of features l)) (but_last-append x y xs ys) ∙ ap (λ (l : List ℕ). length l) (texts_of-append features (x ∷ xs) (but_last y ys))
@@ -88,10 +88,10 @@ waited_behind pending middle features x xs y ys v w texts waited =
     omega (arith, all, both, waited, length-append v w)
 
 pub waited_then : (pending middle : List ℕ) (features : Features) (xs ys : List Exchange) (v w : List ℕ)
-    → v ++ middle ≡ pending ++ texts_of features xs → Waited pending features xs (length v) → Waited middle (features_of features xs) ys (length w)
-    → Waited pending features (xs ++ ys) (length (v ++ w))
+    → v ++ middle ≡ pending ++ texts_of features xs → AnswersWaited pending features xs (length v) → AnswersWaited middle (features_of features xs) ys (length w)
+    → AnswersWaited pending features (xs ++ ys) (length (v ++ w))
 waited_then pending middle features xs [] v w texts p q =
-    subst (λ (l : List Exchange). Waited pending features l (length (v ++ w))) (sym (append-nil xs))
+    subst (λ (l : List Exchange). AnswersWaited pending features l (length (v ++ w))) (sym (append-nil xs))
     (waited_longer pending features xs (length v) (length (v ++ w)) (omega (arith, length-append v w)) p)
 waited_then pending middle features [] (y ∷ ys) v w texts p q =
     let both : length v + length middle ≡ length pending + 0 = sym (length-append v middle) ∙ ap (λ (l : List ℕ). length l) texts ∙ length-append pending [] in
@@ -125,14 +125,14 @@ serves_then a b c p q = record {
     each = subst (λ (l : List (List ℕ)). AllByRecursion IsFrame l) (sym (map-append (λ (x : Exchange). x.bytes) p.served q.served)) (all-append IsFrame (bytes_of p.served) (bytes_of q.served) p.cut.each q.cut.each);
   };
   noted =
-      q.noted ∙ ap (λ l. l ++ flat_map event_of q.served) p.noted ∙ append_assoc a.history (flat_map event_of p.served) (flat_map event_of q.served)
-      ∙ ap (λ l. a.history ++ l) (sym (flat_map-append event_of p.served q.served));
+      q.noted ∙ ap (λ l. l ++ flat_map session_event q.served) p.noted ∙ append_assoc a.history (flat_map session_event p.served) (flat_map session_event q.served)
+      ∙ ap (λ l. a.history ++ l) (sym (flat_map-append session_event p.served q.served));
   texts =
       append_assoc p.written q.written c.pending ∙ ap (λ l. p.written ++ l) q.texts ∙ sym (append_assoc p.written b.pending (texts_of b.features q.served))
       ∙ ap (λ l. l ++ texts_of b.features q.served) p.texts ∙ append_assoc a.pending (texts_of a.features p.served) (texts_of b.features q.served)
       ∙ ap (λ l. a.pending ++ l) (ap (λ (f : Features). texts_of a.features p.served ++ texts_of f q.served) p.features ∙ sym (texts_of-append a.features p.served q.served));
   waited = waited_then a.pending b.pending a.features p.served q.served p.written q.written p.texts p.waited
-      (subst (λ (f : Features). Waited b.pending f q.served (length q.written)) p.features q.waited);
+      (subst (λ (f : Features). AnswersWaited b.pending f q.served (length q.written)) p.features q.waited);
   features = q.features ∙ ap (λ (f : Features). features_of f q.served) p.features ∙ sym (features_of-append a.features p.served q.served);
   quits = quits-append a.quit b.quit c.quit p.served q.served p.quits q.quits;
   wrote = appends_then a.held b.held c.held p.written q.written p.wrote q.wrote;
@@ -224,7 +224,7 @@ fails_then a b c p q f0 f1 last before l =
       count = l.count;
       faults_before = l.faults_before ∙ before;
       waited = waited_then a.pending b.pending a.features p.served q.served p.written l.earlier p.texts p.waited
-          (subst (λ (f : Features). Waited b.pending f q.served (length l.earlier)) p.features l.waited);
+          (subst (λ (f : Features). AnswersWaited b.pending f q.served (length l.earlier)) p.features l.waited);
     })
 
 -- serving stopped where it stands

@@ -27,8 +27,8 @@ event_in f now reply value = exchanges.event_in vbuckets only_caller f now reply
 abbrev pub text_in : Features → FrameData → Reply → List ℕ → List ℕ
 text_in features f reply value = exchanges.text_in vbuckets features f reply value
 
-abbrev pub event_of : Exchange → List (ℕ × EventData)
-event_of x = exchanges.event_of vbuckets only_caller x
+abbrev pub session_event : Exchange → List (ℕ × EventData)
+session_event x = exchanges.event_of vbuckets only_caller x
 
 abbrev pub text_of : Features → Exchange → List ℕ
 text_of features x = exchanges.text_of vbuckets features x

@@ -32,14 +32,14 @@ pub record IsLegalHistory (pairs : List (ℕ × EventData)) : Type 0 where
   pub legal : IsLegal (session_front (events_of 0 pairs))
 
 -- the plain map is in the world that the history leaves, which is legal, and no room was lost
-pub record IsSound (f : Responder) : Type 0 where
+pub record ResponderIsSound (f : Responder) : Type 0 where
   pub world : f.plain ≡ world_of (session_front (events_of 0 f.history))
   pub legal : IsLegalHistory f.history
   pub opened : f.plain.opened ≡ true
   pub answers : f.conn.out.spare + length f.conn.out.bytes ≡ out_room
 
 -- it has opened, and nothing else
-pub record IsFresh (f : Responder) : Type 0 where
+pub record ResponderIsFresh (f : Responder) : Type 0 where
   pub history : f.history ≡ (0, Opened) ∷ []
   pub answers : f.conn.out.bytes ≡ []
   pub features : f.conn.features.seqno ≡ false

@@ -15,8 +15,8 @@ use Rattle.ep_top.specs.declared.end.End.{End}
 use Rattle.ep_top.specs.declared.end.End.TheVariants as ends
 use Rattle.ep_top.specs.declared.responder.Responder.{Responder}
 use Rattle.conn_core.specs.Exchange.{Exchange, AreMoments}
-use Rattle.ep_top.specs.Exchange.{event_of, texts_of, StopsAtQuit}
-use Rattle.ep_top.specs.Responder.{session_front, IsLegalHistory, IsSound}
+use Rattle.ep_top.specs.Exchange.{session_event, texts_of, StopsAtQuit}
+use Rattle.ep_top.specs.Responder.{session_front, IsLegalHistory, ResponderIsSound}
 use Rattle.ep_top.specs.Outside.{Outside}
 use Rattle.ep_top.specs.Stand.{most_pending, Stand, stand, bytes_of, Advances, Writes, LastFails, BeginsWithFrame, is_quit_end}
 
@@ -54,30 +54,30 @@ is_cut ends.Closed = false
 
 -- When each end comes, by the bytes taken, by what of them is no frame, and by whether a Quit was served. One end
 -- excludes the others, but that want of memory may come at any frame, and that a fault of writing comes in place of another.
-abbrev pub Comes : Outside → Outside → List ℕ → List ℕ → Bool → End → Type 0
-Comes before now taken rest quit ends.BadWords = (taken ≡ []) × (quit ≡ false)
-Comes before now taken rest quit ends.NoMemory = quit ≡ false
-Comes before now taken rest quit (ends.BadMagic at) = HasBadMagic rest × (at + length rest ≡ length taken) × (quit ≡ false)
-Comes before now taken rest quit (ends.TooLong at) = IsTooLong rest × (at + length rest ≡ length taken) × (quit ≡ false)
-Comes before now taken rest quit (ends.Torn at) = HasEnded now taken × IsPartial rest × (rest ≢ []) × (at + length rest ≡ length taken) × (quit ≡ false)
-Comes before now taken rest quit ends.Limit = MayGoOn before now rest × (length taken ≡ most_taken) × (quit ≡ false)
-Comes before now taken rest quit ends.ReadFault = MayGoOn before now rest × (length taken < most_taken) × RoseByOne before.read_faults now.read_faults × (quit ≡ false)
-Comes before now taken rest quit ends.WriteFault = RoseByOne before.write_faults now.write_faults
-Comes before now taken rest quit ends.Quit = quit ≡ true
-Comes before now taken rest quit ends.Closed = HasEnded now taken × (rest ≡ []) × (quit ≡ false)
+abbrev pub EndIsDue : Outside → Outside → List ℕ → List ℕ → Bool → End → Type 0
+EndIsDue before now taken rest quit ends.BadWords = (taken ≡ []) × (quit ≡ false)
+EndIsDue before now taken rest quit ends.NoMemory = quit ≡ false
+EndIsDue before now taken rest quit (ends.BadMagic at) = HasBadMagic rest × (at + length rest ≡ length taken) × (quit ≡ false)
+EndIsDue before now taken rest quit (ends.TooLong at) = IsTooLong rest × (at + length rest ≡ length taken) × (quit ≡ false)
+EndIsDue before now taken rest quit (ends.Torn at) = HasEnded now taken × IsPartial rest × (rest ≢ []) × (at + length rest ≡ length taken) × (quit ≡ false)
+EndIsDue before now taken rest quit ends.Limit = MayGoOn before now rest × (length taken ≡ most_taken) × (quit ≡ false)
+EndIsDue before now taken rest quit ends.ReadFault = MayGoOn before now rest × (length taken < most_taken) × RoseByOne before.read_faults now.read_faults × (quit ≡ false)
+EndIsDue before now taken rest quit ends.WriteFault = RoseByOne before.write_faults now.write_faults
+EndIsDue before now taken rest quit ends.Quit = quit ≡ true
+EndIsDue before now taken rest quit ends.Closed = HasEnded now taken × (rest ≡ []) × (quit ≡ false)
 
 -- The history: vBucket 0 opens, and then each frame that is a call has its one event. Before that there is none.
 abbrev pub IsNoted : End → List (ℕ × EventData) → List Exchange → Type 0
 IsNoted ends.BadWords history served = (history ≡ []) × (served ≡ [])
-IsNoted ends.NoMemory history served = ((history ≡ []) × (served ≡ [])) ⊎ (history ≡ (0, Opened) ∷ flat_map event_of served)
-IsNoted (ends.BadMagic at) history served = history ≡ (0, Opened) ∷ flat_map event_of served
-IsNoted (ends.TooLong at) history served = history ≡ (0, Opened) ∷ flat_map event_of served
-IsNoted (ends.Torn at) history served = history ≡ (0, Opened) ∷ flat_map event_of served
-IsNoted ends.Limit history served = history ≡ (0, Opened) ∷ flat_map event_of served
-IsNoted ends.ReadFault history served = history ≡ (0, Opened) ∷ flat_map event_of served
-IsNoted ends.WriteFault history served = history ≡ (0, Opened) ∷ flat_map event_of served
-IsNoted ends.Quit history served = history ≡ (0, Opened) ∷ flat_map event_of served
-IsNoted ends.Closed history served = history ≡ (0, Opened) ∷ flat_map event_of served
+IsNoted ends.NoMemory history served = ((history ≡ []) × (served ≡ [])) ⊎ (history ≡ (0, Opened) ∷ flat_map session_event served)
+IsNoted (ends.BadMagic at) history served = history ≡ (0, Opened) ∷ flat_map session_event served
+IsNoted (ends.TooLong at) history served = history ≡ (0, Opened) ∷ flat_map session_event served
+IsNoted (ends.Torn at) history served = history ≡ (0, Opened) ∷ flat_map session_event served
+IsNoted ends.Limit history served = history ≡ (0, Opened) ∷ flat_map session_event served
+IsNoted ends.ReadFault history served = history ≡ (0, Opened) ∷ flat_map session_event served
+IsNoted ends.WriteFault history served = history ≡ (0, Opened) ∷ flat_map session_event served
+IsNoted ends.Quit history served = history ≡ (0, Opened) ∷ flat_map session_event served
+IsNoted ends.Closed history served = history ≡ (0, Opened) ∷ flat_map session_event served
 
 -- the ends of a session that didn't open
 abbrev pub EndsUnopened : End → Type 0
@@ -163,7 +163,7 @@ pub record IsSession (before now : Outside) (end : End) (history : List (ℕ × 
   pub wrote : Appends before.held now.held written
   pub texts : written ++ lost ≡ texts_of no_features served
   pub whole : end ≢ ends.WriteFault → lost ≡ []
-  pub comes : Comes before now taken rest quit end
+  pub comes : EndIsDue before now taken rest quit end
   -- Nothing was done behind a fault of writing: the last write alone failed, and was to write the rest of these texts.
   -- It was made as soon as more waited than may, so that the clock was asked for no frame more, or else where no whole
   -- frame was left, a Quit was served, or memory was wanting for a frame for which the clock was asked.
@@ -185,7 +185,7 @@ pub record Progress (before now : Outside) (count : ℕ) (rest : List ℕ) (resp
   pub counted : length taken ≡ count
   pub takes : TakesBytes before.left now.left taken
   pub serves : Advances (begin before taken) (stand rest responder now.held now.moment false)
-  pub sound : IsSound responder
+  pub sound : ResponderIsSound responder
   pub partial : IsPartial rest
   pub written : responder.conn.out.bytes ≡ []
   pub going : now.has_ended ≡ before.has_ended
@@ -222,7 +222,7 @@ pub record Stops (before now : Outside) (end : End) (responder : Responder) : Ty
   pub wanting : end ≡ ends.NoMemory → BeginsWithFrame rest
   pub asked : (k : ℕ) → now.moment k ≡ moment (extra + k)
   pub legal : IsLegalHistory responder.history
-  pub comes : Comes before now taken rest (is_quit_end end) end
+  pub comes : EndIsDue before now taken rest (is_quit_end end) end
   pub served : end ≢ ends.BadWords
   pub reads : ReadsInTurn before now taken serves.served serves.written
   pub reading : end ≢ ends.ReadFault → now.read_faults ≡ before.read_faults

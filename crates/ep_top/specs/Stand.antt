@@ -13,7 +13,7 @@ use Rattle.ep_top.specs.declared.end.End.{End}
 use Rattle.ep_top.specs.declared.end.End.TheVariants as ends
 use Rattle.ep_top.specs.declared.responder.Responder.{Responder}
 use Rattle.conn_core.specs.Exchange.{Exchange, features_of, AreMoments}
-use Rattle.ep_top.specs.Exchange.{event_of, texts_of, StopsAtQuit}
+use Rattle.ep_top.specs.Exchange.{session_event, texts_of, StopsAtQuit}
 
 -- the bytes that were taken and aren't served, the history, the answers that aren't written, what sink and clock tell, the
 -- features, and whether a Quit was served
@@ -44,18 +44,18 @@ but_last x (y ∷ ys) = x ∷ but_last y ys
 
 -- No more waited than may as the last of these frames was served, where so many bytes had been written by then, and
 -- these had waited before the first.
-abbrev pub Waited : List ℕ → Features → List Exchange → ℕ → Type 0
-Waited pending features [] written = Unit {0}
-Waited pending features (x ∷ xs) written = length pending + length (texts_of features (but_last x xs)) ≤ written + most_pending
+abbrev pub AnswersWaited : List ℕ → Features → List Exchange → ℕ → Type 0
+AnswersWaited pending features [] written = Unit {0}
+AnswersWaited pending features (x ∷ xs) written = length pending + length (texts_of features (but_last x xs)) ≤ written + most_pending
 
 -- Between the two, these frames of the rest were served, and so much was written.
 pub record Advances (old new : Stand) : Type 0 where
   pub served : List Exchange
   pub written : List ℕ
   pub cut : HasCut old.rest (bytes_of served) new.rest
-  pub noted : new.history ≡ old.history ++ flat_map event_of served
+  pub noted : new.history ≡ old.history ++ flat_map session_event served
   pub texts : written ++ new.pending ≡ old.pending ++ texts_of old.features served
-  pub waited : Waited old.pending old.features served (length written)
+  pub waited : AnswersWaited old.pending old.features served (length written)
   pub features : new.features ≡ features_of old.features served
   pub quits : StopsAtQuit old.quit served new.quit
   pub wrote : Appends old.held new.held written
@@ -81,7 +81,7 @@ pub record LastFails (old : Stand) (faults : ℕ) (served : List Exchange) (last
   pub held : Appends old.held last.held_before earlier
   pub count : last.count ≡ length offered
   pub faults_before : last.faults_before ≡ faults
-  pub waited : Waited old.pending old.features served (length earlier)
+  pub waited : AnswersWaited old.pending old.features served (length earlier)
 
 -- what wasn't served begins with a whole frame
 abbrev pub BeginsWithFrame : List ℕ → Type 0

@@ -45,12 +45,12 @@ pub struct Responder {
 }
 
 impl Responder {
-    ghost use Rattle.ep_top.specs.Responder.{IsSound, IsFresh, Responds, KeepsAllButAnswers, is_quit_served};
+    ghost use Rattle.ep_top.specs.Responder.{ResponderIsSound, ResponderIsFresh, Responds, KeepsAllButAnswers, is_quit_served};
 
     /// An empty vBucket that has opened, and a connection.
     pub fn open(alloc: Global) -> Result<Responder, NoMemory>
-        ensures fresh { IfOk result IsFresh }
-        ensures sound { IfOk result IsSound }
+        ensures fresh { IfOk result ResponderIsFresh }
+        ensures sound { IfOk result ResponderIsSound }
     {
         let mut history = History::new(alloc);
         history.note(0, &Event::Opened)?;
@@ -63,9 +63,9 @@ impl Responder {
 
     /// Answers one frame, and asks the clock once for it.
     pub fn serve<C: Clock>(&mut self, frame: &Frame, clock: &mut C) -> Result<Served, NoMemory>
-        requires sound { IsSound self.old }
+        requires sound { ResponderIsSound self.old }
         requires room { length self.old.conn.out.bytes ≤ most_pending }
-        ensures sound { OnOk result (IsSound self.new) }
+        ensures sound { OnOk result (ResponderIsSound self.new) }
         ensures answered { IfOk result (λ served. Responds (frame_data frame.now)
             (C.moment clock.old) (C.moment clock.new) (is_quit_served served) self.old self.new) }
         ensures err { OnErr result ((self.new.history ≡ self.old.history)
@@ -107,7 +107,7 @@ impl Responder {
         ensures some { result ≡ Put.Failed → self.old.conn.out.bytes ≢ [] }
         ensures quiet { result ≡ Put.Done → W.faults sink.new ≡ W.faults sink.old }
         ensures kept { KeepsAllButAnswers self.old self.new }
-        ensures sound { IsSound self.old → IsSound self.new }
+        ensures sound { ResponderIsSound self.old → ResponderIsSound self.new }
     {
         if self.conn.out.bytes().is_empty() {
             return Put::Done;
@@ -131,7 +131,7 @@ impl Responder {
         ensures many { result ≡ Put.Failed → most_pending < length self.old.conn.out.bytes }
         ensures quiet { result ≡ Put.Done → W.faults sink.new ≡ W.faults sink.old }
         ensures kept { KeepsAllButAnswers self.old self.new }
-        ensures sound { IsSound self.old → IsSound self.new }
+        ensures sound { ResponderIsSound self.old → ResponderIsSound self.new }
     {
         if self.conn.out.bytes().len() <= MAX_PENDING {
             return Put::Done;

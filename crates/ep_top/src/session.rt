@@ -2,7 +2,7 @@
 ghost use Rattle.std.specs.Prelude.{◌≡◌, ◌≢◌, ◌||◌, ◌+◌, ◌-◌, ◌<◌, ◌≤◌, ◌^◌, ◌++◌, ◌↔◌, ℕ, List, [], length, map, true, false, string_bytes, OnOk, OnErr, IfOk, IfErr};
 ghost use Rattle.ep_edge.specs.Edge.{IsEmptied, is_end, read_faults};
 ghost use Rattle.mcbp_frame.specs.Division.{IsPartial};
-ghost use Rattle.ep_top.specs.Responder.{IsLegalHistory, IsSound, IsFresh};
+ghost use Rattle.ep_top.specs.Responder.{IsLegalHistory, ResponderIsSound, ResponderIsFresh};
 ghost use Rattle.ep_top.specs.Outside.{Outside, outside};
 ghost use Rattle.ep_top.specs.Stand.{stand, Advances, Breaks};
 ghost use Rattle.ep_top.specs.Session.{most_taken, IsSession, IsSessionCommand, EndsUnopened, Stops, EndsAt, Finishes};
@@ -36,12 +36,12 @@ fn serve_next<W: Sink, C: Clock>(
     sink: &mut W,
     clock: &mut C,
 ) -> Result<bool, End>
-    requires sound { IsSound responder.old }
+    requires sound { ResponderIsSound responder.old }
 
     ensures serves { OnOk result (Advances (stand feeder.old.rest responder.old (W.held sink.old)
         (C.moment clock.old) false) (stand feeder.new.rest responder.new (W.held sink.new)
         (C.moment clock.new) false)) }
-    ensures sound { OnOk result (IsSound responder.new) }
+    ensures sound { OnOk result (ResponderIsSound responder.new) }
     ensures less { result ≡ Ok true → length feeder.new.rest < length feeder.old.rest }
     ensures partial { result ≡ Ok false → IsPartial feeder.new.rest }
 
@@ -77,12 +77,12 @@ fn drain<W: Sink, C: Clock>(
     sink: &mut W,
     clock: &mut C,
 ) -> Result<(), End>
-    requires sound { IsSound responder.old }
+    requires sound { ResponderIsSound responder.old }
 
     ensures serves { OnOk result (Advances (stand feeder.old.rest responder.old (W.held sink.old)
         (C.moment clock.old) false) (stand feeder.new.rest responder.new (W.held sink.new)
         (C.moment clock.new) false)) }
-    ensures sound { OnOk result (IsSound responder.new) }
+    ensures sound { OnOk result (ResponderIsSound responder.new) }
     ensures partial { OnOk result (IsPartial feeder.new.rest) }
     ensures written { OnOk result (responder.new.conn.out.bytes ≡ []) }
 
@@ -166,11 +166,16 @@ fn serve_stream<R: Source, W: Sink, C: Clock>(
 ) -> End
     requires rest { feeder.old.rest ≡ [] }
     requires at { feeder.old.at ≡ 0 }
-    requires fresh { IsFresh responder.old }
-    requires sound { IsSound responder.old }
+    requires fresh { ResponderIsFresh responder.old }
+    requires sound { ResponderIsSound responder.old }
 
-    ensures stops { Stops (outside (R.left source.old) (R.left_before source.old) (R.has_ended source.old) (R.ended_before source.old) (R.faults source.old) (W.held sink.old) (W.last_offer sink.old) (W.faults sink.old) (C.moment clock.old))
-        (outside (R.left source.new) (R.left_before source.new) (R.has_ended source.new) (R.ended_before source.new) (R.faults source.new) (W.held sink.new) (W.last_offer sink.new) (W.faults sink.new) (C.moment clock.new)) result responder.new }
+    ensures stops { Stops (outside (R.left source.old) (R.left_before source.old)
+        (R.has_ended source.old) (R.ended_before source.old) (R.faults source.old)
+        (W.held sink.old) (W.last_offer sink.old) (W.faults sink.old) (C.moment clock.old))
+        (outside (R.left source.new) (R.left_before source.new) (R.has_ended source.new)
+        (R.ended_before source.new) (R.faults source.new) (W.held sink.new)
+        (W.last_offer sink.new) (W.faults sink.new) (C.moment clock.new))
+        result responder.new }
 {
     let mut taken: u64 = 0;
     'pieces: while !is_full(taken) {
@@ -225,8 +230,8 @@ struct Parts {
 fn open(alloc: Global) -> Result<Parts, NoMemory>
     ensures rest { IfOk result (λ parts. parts.feeder.rest ≡ []) }
     ensures at { IfOk result (λ parts. parts.feeder.at ≡ 0) }
-    ensures fresh { IfOk result (λ parts. IsFresh parts.responder) }
-    ensures sound { IfOk result (λ parts. IsSound parts.responder) }
+    ensures fresh { IfOk result (λ parts. ResponderIsFresh parts.responder) }
+    ensures sound { IfOk result (λ parts. ResponderIsSound parts.responder) }
 {
     Ok(Parts {
         feeder: Feeder::new(alloc)?,
@@ -250,8 +255,13 @@ pub fn run_session<R: Source, W: Sink, C: Clock>(
         → ⊥ }
     ensures bad_words { (IsSessionCommand (map string_bytes words.now.items) → ⊥) → result.end
         ≡ End.BadWords }
-    ensures session { IsSession (outside (R.left source.old) (R.left_before source.old) (R.has_ended source.old) (R.ended_before source.old) (R.faults source.old) (W.held sink.old) (W.last_offer sink.old) (W.faults sink.old) (C.moment clock.old))
-        (outside (R.left source.new) (R.left_before source.new) (R.has_ended source.new) (R.ended_before source.new) (R.faults source.new) (W.held sink.new) (W.last_offer sink.new) (W.faults sink.new) (C.moment clock.new)) result.end result.history }
+    ensures session { IsSession (outside (R.left source.old) (R.left_before source.old)
+        (R.has_ended source.old) (R.ended_before source.old) (R.faults source.old)
+        (W.held sink.old) (W.last_offer sink.old) (W.faults sink.old) (C.moment clock.old))
+        (outside (R.left source.new) (R.left_before source.new) (R.has_ended source.new)
+        (R.ended_before source.new) (R.faults source.new) (W.held sink.new)
+        (W.last_offer sink.new) (W.faults sink.new) (C.moment clock.new))
+        result.end result.history }
     ensures refused { result.end ≡ End.BadWords → (source.new ≡ source.old) × (sink.new ≡ sink.old)
         × (clock.new ≡ clock.old) }
     ensures unopened { result.history ≡ [] → (source.new ≡ source.old) × (sink.new ≡ sink.old)
@@ -288,12 +298,17 @@ fn serve<R: Source, W: Sink, C: Clock>(
 ) -> SessionEnd
     requires rest { parts.feeder.rest ≡ [] }
     requires at { parts.feeder.at ≡ 0 }
-    requires fresh { IsFresh parts.responder }
-    requires sound { IsSound parts.responder }
+    requires fresh { ResponderIsFresh parts.responder }
+    requires sound { ResponderIsSound parts.responder }
     ensures served { result.end ≡ End.BadWords → ⊥ }
     ensures opened { result.history ≡ [] → ⊥ }
-    ensures session { IsSession (outside (R.left source.old) (R.left_before source.old) (R.has_ended source.old) (R.ended_before source.old) (R.faults source.old) (W.held sink.old) (W.last_offer sink.old) (W.faults sink.old) (C.moment clock.old))
-        (outside (R.left source.new) (R.left_before source.new) (R.has_ended source.new) (R.ended_before source.new) (R.faults source.new) (W.held sink.new) (W.last_offer sink.new) (W.faults sink.new) (C.moment clock.new)) result.end result.history }
+    ensures session { IsSession (outside (R.left source.old) (R.left_before source.old)
+        (R.has_ended source.old) (R.ended_before source.old) (R.faults source.old)
+        (W.held sink.old) (W.last_offer sink.old) (W.faults sink.old) (C.moment clock.old))
+        (outside (R.left source.new) (R.left_before source.new) (R.has_ended source.new)
+        (R.ended_before source.new) (R.faults source.new) (W.held sink.new)
+        (W.last_offer sink.new) (W.faults sink.new) (C.moment clock.new))
+        result.end result.history }
 {
     let Parts {
         mut feeder,

@@ -1,5 +1,5 @@
 -- The value fits the output behind the head, and is noted and shown from there.
-use Rattle.std.proofs.Common.{◌≡◌, ◌∙◌, ◌≤◌, ℕ, List, length, ap, refl, arith}
+use Rattle.std.proofs.Common.{◌∙◌, ◌≤◌, ℕ, List, length, ap, refl, arith}
 use Rattle.ep_model.specs.History.{call_data}
 use Rattle.mcbp_frame.specs.Frames.{frame_data}
 use Rattle.ep_top.proofs.ResponderLemmas.{answered_behind, to_end, left_over, err_four}

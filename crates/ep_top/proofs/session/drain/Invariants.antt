@@ -1,5 +1,5 @@
 use Rattle.std.proofs.Common.{false, ◌≡◌, ◌+◌, length}
-use Rattle.ep_top.specs.Responder.{IsSound}
+use Rattle.ep_top.specs.Responder.{ResponderIsSound}
 use Rattle.ep_top.specs.Stand.{stand, Advances}
 use Rattle.ep_top.proofs.session.drain.Given as goal
 
@@ -7,7 +7,7 @@ use Rattle.ep_top.proofs.session.drain.Given as goal
 abbrev pub invariant-frames : goal.invariant-frames
 invariant-frames g l = record {
   serves : Advances (stand l.fn.feeder.rest l.fn.responder (g.W.Sink.held l.fn.sink) (g.C.Clock.moment l.fn.clock) false) (stand l.feeder.rest l.responder (g.W.Sink.held l.sink) (g.C.Clock.moment l.clock) false);
-  sound : IsSound l.responder;
+  sound : ResponderIsSound l.responder;
   place : l.feeder.at + length l.feeder.rest ≡ l.fn.feeder.at + length l.fn.feeder.rest;
   faults : g.W.Sink.faults l.sink ≡ g.W.Sink.faults l.fn.sink;
 }
