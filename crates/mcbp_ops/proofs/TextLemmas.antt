@@ -1,5 +1,5 @@
 -- How long the texts of replies are.
-use Rattle.std.proofs.Common.{◌≡◌, ℕ, ◌+◌, ◌≤◌, ◌==◌, Bool, true, false, if◌then◌else◌, List, [], ◌++◌, length, take, drop, refl, sym, subst, ap, ◌∙◌, arith, length-append}
+use Rattle.std.proofs.Common.{◌≡◌, ℕ, ◌+◌, ◌≤◌, ◌==◌, Bool, true, false, if◌then◌else◌, List, [], ◌++◌, length, take, drop, sym, subst, ap, arith, length-append}
 use Rattle.std.specs.Prelude.{Result, Ok, Err}
 use Rattle.std.proofs.lemmas.List.{length-take}
 use Rattle.byteorder.specs.Endian.{big_bytes}
@@ -65,6 +65,10 @@ pub reply_text_fits : ReplyTextFits
 reply_text_fits f reply value seqno_feature =
     chosen (is_silent f.opcode reply.status) (reply.status == success) (kind_text f reply value seqno_feature (kind_of f.opcode)) (status_text f reply.status) (40 + f.key_len + length value)
     (kind_fits f reply value seqno_feature (kind_of f.opcode)) (status_fits f reply.status value)
+
+-- a text has room where the longest has
+pub has_room : (f : FrameData) (reply : Reply) (value : List ℕ) (seqno_feature : Bool) (spare : ℕ) → 40 + f.key_len + length value ≤ spare → length (reply_text f reply value seqno_feature) ≤ spare
+has_room f reply value seqno_feature spare enough = omega (arith, reply_text_fits f reply value seqno_feature)
 
 -- a counter's answer that shows the uuid and the sequence number, in front of the value that stands
 pub stamped_count : (f : FrameData) (reply : Reply) (at : ℕ) (old new stamp : List ℕ) (seqno_feature : Bool) (kind : Kind) (down : Bool)

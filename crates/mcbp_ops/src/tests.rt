@@ -1,8 +1,9 @@
 // The table of opcodes and the texts of replies, with their numbers written out.
 ghost use Rattle.std.specs.Prelude.{◌≡◌, ◌≤◌, ◌+◌, length};
+ghost use Rattle.mcbp_ops.specs.Text.{IsFormOf};
 
-use crate::kind::form_of;
-use crate::{Bad, Op, Reading, begin_reply, end_reply, read_call};
+use crate::kind::{Form, form_of};
+use crate::{Bad, Op, Reading, begin_reply, end_reply, is_silent, read_call, reply_text};
 use ep_model::{Call, Out, Reply, StoreKind, VbState};
 use mcbp_frame::Frame;
 use std::alloc::Global;
@@ -40,6 +41,7 @@ const ROWS: [Row; 21] = [
 const UNKNOWN: Row = ("unknown", &[], 0, 0, 0);
 
 fn frame(opcode: u8, datatype: u8, extras_len: u8, key_len: u16, body: &[u8]) -> Frame<'_>
+    ensures opcode { result.opcode ≡ opcode }
     ensures extras_len { result.extras_len ≡ extras_len }
     ensures key_len { result.key_len ≡ key_len }
     ensures body { result.body.now ≡ body.now }
@@ -337,8 +339,49 @@ const TEXTS: [Text; 12] = [
     ),
 ];
 
-// Checks the text of the reply to a frame of the key `key`, behind bytes that stay.
+// Appends the text of a reply where there is room for the longest.
+fn put_text(frame: &Frame, reply: &Reply, value: &[u8], seqno_feature: bool, out: &mut Out)
+    requires { 40 + frame.now.key_len + length value.now ≤ out.old.spare }
+{
+    reply_text(frame, reply, value, seqno_feature, out);
+}
+
+// Appends the text of a reply around its value, which is put before the reply is known.
+fn put_around(
+    frame: &Frame,
+    form: Form,
+    reply: &Reply,
+    value: &[u8],
+    seqno_feature: bool,
+    out: &mut Out,
+)
+    requires form { IsFormOf frame.now.opcode form }
+    requires room { 80 + frame.now.key_len + length value.now ≤ out.old.spare }
+{
+    let at = out.bytes().len();
+    begin_reply(frame, form, seqno_feature, out);
+    out.push(value);
+    end_reply(frame, form, reply, at, seqno_feature, out);
+}
+
+// Checks the text of the reply to a frame of the key `key`.
 fn check_text(rt: &impl Abort, alloc: Global, case: Text) -> Result<(), Fail> {
+    let (opcode, status, seqno_feature, text) = case;
+    let mut out = Out::new(alloc, 64)?;
+    let reply = Reply { status, ..STORED };
+    let request = frame(opcode, 0, 0, 3, b"key");
+    put_text(&request, &reply, b"12345678", seqno_feature, &mut out);
+    assert_eq!(rt; out.bytes(), text, "opcode {opcode}");
+    assert_eq!(rt;
+        is_silent(opcode, status),
+        text.is_empty(),
+        "opcode {opcode}"
+    );
+    Ok(())
+}
+
+// Checks the same text put around its value, behind bytes that stay.
+fn check_around(rt: &impl Abort, alloc: Global, case: Text) -> Result<(), Fail> {
     let (opcode, status, seqno_feature, text) = case;
     let mut out = Out::new(alloc, 128)?;
     let reply = Reply { status, ..STORED };
@@ -347,17 +390,10 @@ fn check_text(rt: &impl Abort, alloc: Global, case: Text) -> Result<(), Fail> {
         panic!(rt; "the opcode {opcode} is refused");
     };
     out.push(b"before");
-    let at = out.bytes().len();
-    begin_reply(&request, form, seqno_feature, &mut out);
-    out.push(b"12345678");
-    end_reply(&request, form, &reply, at, seqno_feature, &mut out);
+    put_around(&request, form, &reply, b"12345678", seqno_feature, &mut out);
+    assert!(rt; out.bytes().len() >= 6);
     assert_eq!(rt; &out.bytes()[..6], b"before".as_slice());
     assert_eq!(rt; &out.bytes()[6..], text, "opcode {opcode}");
-    assert_eq!(rt;
-        form.silence.hides(status),
-        text.is_empty(),
-        "opcode {opcode}"
-    );
     Ok(())
 }
 
@@ -366,6 +402,7 @@ fn replies_are_written(rt: HostRuntime) -> Result<(), Fail> {
     let alloc = rt.alloc();
     for case in TEXTS {
         check_text(&rt, alloc, case)?;
+        check_around(&rt, alloc, case)?;
     }
     Ok(())
 }

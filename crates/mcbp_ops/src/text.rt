@@ -12,7 +12,15 @@ use ep_model::{Out, Reply};
 use mcbp_frame::{Frame, HEADER, put_head, put_response};
 
 // Appends a response to a frame, of no data type.
-pub(crate) fn put(out: &mut Out, frame: &Frame, status: u16, cas: u64, extras: &[u8], key: &[u8], value: &[u8])
+pub(crate) fn put(
+    out: &mut Out,
+    frame: &Frame,
+    status: u16,
+    cas: u64,
+    extras: &[u8],
+    key: &[u8],
+    value: &[u8],
+)
     requires spare { length (answer_text (frame_data frame.now) status cas extras.now key.now
         value.now) ≤ out.old.spare }
     requires extras_fit { length extras.now < 2 ^ 8 }
