@@ -145,15 +145,15 @@ queue_same f event q world puts s =
     ∙ ap (λ (l : List (List ℕ × Doc)). above (world_of f).persisted l) (mutations_step f event ∙ ap (λ (p : Option (List ℕ × Doc)). mutations (begun f) f.events ++ option_to_list p) puts ∙ append-nil (mutations (begun f) f.events))
     ) in
     record {
-  numbers = s.numbers ∙ ap all_numbered left;
-  items = λ told. s.items (sym (same_told f event) ∙ told) ∙ left;
-  high = s.high ∙ sym (ap (λ (w : World). w.high) world);
-  maxcas = s.maxcas ∙ sym (ap (λ (w : World). w.maxcas) world);
-  persisted = s.persisted ∙ sym (ap (λ (w : World). w.persisted) world);
-  state = s.state ∙ sym (ap (λ (w : World). w.state) world);
-  opened = s.opened ∙ sym (ap (λ (w : World). w.opened) world);
-  uuid = s.uuid ∙ sym (ap uuid_of (same_table f event));
-}
+      numbers = s.numbers ∙ ap all_numbered left;
+      items = λ told. s.items (sym (same_told f event) ∙ told) ∙ left;
+      high = s.high ∙ sym (ap (λ (w : World). w.high) world);
+      maxcas = s.maxcas ∙ sym (ap (λ (w : World). w.maxcas) world);
+      persisted = s.persisted ∙ sym (ap (λ (w : World). w.persisted) world);
+      state = s.state ∙ sym (ap (λ (w : World). w.state) world);
+      opened = s.opened ∙ sym (ap (λ (w : World). w.opened) world);
+      uuid = s.uuid ∙ sym (ap uuid_of (same_table f event));
+    }
 
 -- a document was put under the key, or nothing: the parts stand behind the answered call
 module _ (f : FrontData) (stripe caller now : ℕ) (key : List ℕ) (call : CallData) (reply : Reply) (value : List ℕ) (legal : IsLegal f) (here : stripe_of key f.config.stripes ≡ stripe) (opened : (world_of f).opened ≡ true) where

@@ -48,7 +48,8 @@ impl<K: Keeper> Model for Core<K> {
 
     ghost view = { λ c. core_data c.config c.world c.benches.items c.callers.items };
 
-    ghost invariant = { λ c. Interleaves (core_data c.config c.world c.benches.items c.callers.items)
+    ghost invariant = { λ c. Interleaves
+        (core_data c.config c.world c.benches.items c.callers.items)
         × (c.value.spare + length c.value.bytes ≡ max_value) };
 }
 

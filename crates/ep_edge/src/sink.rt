@@ -27,5 +27,6 @@ pub trait Sink: Drop {
         ensures failed { result ≡ Put.Failed → AppendsFront (held self.old) (held self.new)
             bytes.now }
         ensures faults { faults self.new ≡ write_faults result (faults self.old) }
-        ensures offered { last_offer self.new ≡ offer (held self.old) (faults self.old) (length bytes.now) };
+        ensures offered { last_offer self.new ≡ offer (held self.old) (faults self.old)
+            (length bytes.now) };
 }

@@ -36,7 +36,12 @@ impl<R> Model for ReaderSource<R> {
 
     ghost Value = { ReaderData R };
 
-    ghost view = { λ s. record { reader = s.reader; ended = s.ended; ended_before = s.ended_before; faults = s.faults } };
+    ghost view = { λ s. record {
+      reader = s.reader;
+      ended = s.ended;
+      ended_before = s.ended_before;
+      faults = s.faults;
+    } };
 }
 
 impl<R: Read + Drop> ReaderSource<R> {
@@ -118,7 +123,12 @@ impl<W> Model for WriterSink<W> {
 
     ghost Value = { WriterData W };
 
-    ghost view = { λ s. record { writer = s.writer; faults = s.faults; faults_before = s.faults_before; offered = s.offered } };
+    ghost view = { λ s. record {
+      writer = s.writer;
+      faults = s.faults;
+      faults_before = s.faults_before;
+      offered = s.offered;
+    } };
 }
 
 impl<W: Write + Drop> WriterSink<W> {
