@@ -38,7 +38,7 @@ use Rattle.flat_parts.specs.declared.data.StripeData.{StripeData}
 use Rattle.flat_parts.specs.declared.data.Step.TheVariants as steps
 use Rattle.flat_parts.specs.Nodes.{node_at, outcome_at, is_not_numbered, released}
 use Rattle.flat_parts.specs.Steps.{read_refused, is_full, asked, read_asks, prior_outcome, read_waits, read_value, read_node, read_active, read_step}
-use Rattle.ep_drill.specs.Stands.{ValueStands, IsGone, OutcomeStands, ticket_of, PlaceStands, StripeStands}
+use Rattle.ep_drill.specs.Stands.{ValueStands, MayBeGone, OutcomeStands, ticket_of, PlaceStands, StripeStands}
 use Rattle.hold_stage.specs.Priors.{PriorsStand, PriorStands}
 use Rattle.ep_drill.proofs.ReadLemmas.{AfterRead, all_filter, all_map, IsCalm, places_calm, stripe_calm, released_all, after_done, after_warming}
 
@@ -263,7 +263,7 @@ get_active : (w : World) (key : List ℕ) (now : ℕ) → w.state ≡ Active →
 get_active w key now active = ap (λ (v : VbState). unless (state_refusal v true) (answer_get (live w key now))) active
 
 -- and nothing where the document is gone
-gone_answer : (mark now : ℕ) (found : Option Doc) → IsGone mark found → answer_get (live_of found now) ≡ answer_get None
+gone_answer : (mark now : ℕ) (found : Option Doc) → MayBeGone mark found → answer_get (live_of found now) ≡ answer_get None
 gone_answer mark now None gone = refl
 gone_answer mark now (Some doc) gone = ap (λ b. answer_get (cond (not b && (doc.expiry == 0 || nat_lt (secs now) doc.expiry)) (Some doc) None)) gone.1
 

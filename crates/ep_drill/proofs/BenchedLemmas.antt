@@ -27,7 +27,7 @@ use Rattle.ep_drill.specs.Calls.{AreHome}
 use Rattle.hold_stage.specs.Stays.{KeptBut}
 use Rattle.ep_drill.specs.Fetches.{fetched_data, IsMerged, IsRead, ReadsOldest}
 use Rattle.ep_drill.specs.Core.{BenchStands, Ready, Moved, Rested, count_of}
-use Rattle.ep_drill.specs.Works.{WasTaken, WasDropped, WasFlushed, WasFetched, WasMerged, reads_after}
+use Rattle.ep_drill.specs.Works.{TookBatch, WasDropped, WasFlushed, WasFetched, WasMerged, reads_after}
 use Rattle.ep_drill.proofs.MergedLemmas.{get_mapped, flushed_moved, merged_moved}
 use Rattle.ep_drill.proofs.ListLemmas.{set_same}
 use Rattle.ep_drill.proofs.WorkedLemmas.{moved_still, layout_with_room, kept_at}
@@ -111,7 +111,7 @@ module _ (config : Config) (a s z : WorldData Part) (vb sv zv : ℕ) (ready : Re
 
   module _ (bench after : BenchData) (sure : bench.desk.doubt ≡ None) (parts : (p : PartName) → there (front_in s sv).config p ≡ true → part_in z zv p ≡ part_in s sv p) where
     -- a batch was taken, or none is needed
-    pub was_taken : (number : ℕ) (taken batch : Option BatchData) → taken ≡ batch → IsTaken (front_in s sv) bench.desk.stored taken → number ≡ count_of batch → after ≡ record bench { batch = batch } → BenchStands (front_in a vb) bench → WasTaken config vb number a z bench after
+    pub was_taken : (number : ℕ) (taken batch : Option BatchData) → taken ≡ batch → IsTaken (front_in s sv) bench.desk.stored taken → number ≡ count_of batch → after ≡ record bench { batch = batch } → BenchStands (front_in a vb) bench → TookBatch config vb number a z bench after
     was_taken number taken batch same stands count left b =
         let here : IsTaken (front_in s sv) bench.desk.stored batch = subst (λ (o : Option BatchData). IsTaken (front_in s sv) bench.desk.stored o) same stands in
         let there : IsTaken (front_in a vb) bench.desk.stored batch = subst (λ (f : FrontData). IsTaken f bench.desk.stored batch) here_front here in

@@ -19,7 +19,7 @@ use Rattle.ep_drill.specs.declared.data.BenchData.{BenchData}
 use Rattle.ep_drill.specs.declared.fetched.Fetched.{Fetched}
 use Rattle.ep_drill.specs.declared.data.FetchedData.{FetchedData}
 use Rattle.ep_drill.specs.Fetches.{fetched_data}
-use Rattle.ep_drill.specs.Opens.{copies, idle, reads_in, bench_over, IsFresh, AreFresh, FirstOpened}
+use Rattle.ep_drill.specs.Opens.{copies, idle, reads_in, bench_over, TellsEmpty, AllTellEmpty, FirstOpened}
 
 -- a bench of a keeper, as it is seen, and its reads
 abbrev pub bench_from : {K : Type 0} → (K → KeeperData) → K × Vec (Option Fetched) Global → BenchData
@@ -51,7 +51,7 @@ zip_fresh seen stripes (k ∷ ks) (v ∷ vs) is =
     ap (λ (l : List (Option FetchedData)). bench_over l (seen k) ∷ map (bench_from seen) (zip ks vs)) here ∙ ap (λ (l : List BenchData). bench_over (copies stripes None) (seen k) ∷ l) (zip_fresh seen stripes ks vs rest)
 
 -- each keeper that comes with its reads is fresh
-pub fresh_at : {K R : Type 0} (seen : K → KeeperData) (keepers : List K) (reads : List R) (n : ℕ) (pair : K × R) → n < length (zip keepers reads) → pair ≡ get_or (zip keepers reads) n pair → AreFresh (map seen keepers) → (seen pair.0).sure ≡ true
+pub fresh_at : {K R : Type 0} (seen : K → KeeperData) (keepers : List K) (reads : List R) (n : ℕ) (pair : K × R) → n < length (zip keepers reads) → pair ≡ get_or (zip keepers reads) n pair → AllTellEmpty (map seen keepers) → (seen pair.0).sure ≡ true
 fresh_at seen [] reads n pair within is fresh = absurd (omega arith)
 fresh_at seen (k ∷ ks) [] n pair within is fresh = absurd (omega arith)
 fresh_at seen (k ∷ ks) (r ∷ rs) zero pair within is fresh = ap (λ p. (seen p.0).sure) is ∙ fresh.0.1
@@ -77,14 +77,14 @@ bench_at reads (k ∷ ks) (suc vb) bench at = bench_at reads ks vb bench at
 
 -- a core that was made
 pub core_made : (config : Config) (world : WorldData Part) (benches : List BenchData) (callers : List CallerData) (keepers : List KeeperData) (count : ℕ) → Ready config world → FirstOpened config config.vbuckets world → Sound part_stands world
-    → benches ≡ map (bench_over (copies config.stripes None)) keepers → length keepers ≡ config.vbuckets → AreFresh keepers → callers ≡ copies count idle → Interleaves (record { config = config; world = world; benches = benches; callers = callers })
+    → benches ≡ map (bench_over (copies config.stripes None)) keepers → length keepers ≡ config.vbuckets → AllTellEmpty keepers → callers ≡ copies count idle → Interleaves (record { config = config; world = world; benches = benches; callers = callers })
 core_made config world benches callers keepers count ready opened sound made long fresh idles =
     let none : List (Option FetchedData) = copies config.stripes None in
     let whole : Interleaves (record { config = config; world = world; benches = map (bench_over none) keepers; callers = copies count idle }) =
     core_new config world (map (bench_over none) keepers) (copies count idle) ready sound (length-map keepers (bench_over none) ∙ long) opened.fronts
     (λ vb bench at.
     let b = bench_at none keepers vb bench at in
-    let f = all-get IsFresh keepers vb b.0 fresh b.1 in (
+    let f = all-get TellsEmpty keepers vb b.0 fresh b.1 in (
       b.0,
       ap (λ (x : BenchData). x.desk) b.2,
       f.0,

@@ -193,11 +193,11 @@ abbrev opened_front : Config → ℕ → FrontData
 opened_front config vb = record { config = config; id = vb; start = Some empty_start; events = events.Opened ∷ [] }
 
 -- A bench over an empty store, with no batch and no read.
-abbrev IsFresh : Config → BenchData → Type 0
-IsFresh config bench = (keeper : KeeperData) × (bench.desk ≡ new_desk keeper) × (keeper.content ≡ Some empty_content) × (keeper.sure ≡ true) × (bench.batch ≡ None) × (length bench.reads ≡ config.stripes)
+abbrev IsFreshBench : Config → BenchData → Type 0
+IsFreshBench config bench = (keeper : KeeperData) × (bench.desk ≡ new_desk keeper) × (keeper.content ≡ Some empty_content) × (keeper.sure ≡ true) × (bench.batch ≡ None) × (length bench.reads ≡ config.stripes)
     × ((stripe : ℕ) (r : FetchedData) → slice_get bench.reads stripe ≡ Some (Some r) → ⊥)
 
-fresh_stands : (config : Config) (f : FrontData) (vb : ℕ) (bench : BenchData) → f ≡ opened_front config vb → IsFresh config bench → BenchStands f bench
+fresh_stands : (config : Config) (f : FrontData) (vb : ℕ) (bench : BenchData) → f ≡ opened_front config vb → IsFreshBench config bench → BenchStands f bench
 fresh_stands config f vb bench is fresh =
     let made : BenchStands f (record { desk = new_desk fresh.0; batch = None; reads = bench.reads }) =
     bench_new f fresh.0 bench.reads (ap (λ (g : FrontData). g.start) is) (ap (λ (g : FrontData). g.events) is) fresh.2 fresh.3 (fresh.5 ∙ sym (ap (λ (g : FrontData). g.config.stripes) is)) fresh.6 in

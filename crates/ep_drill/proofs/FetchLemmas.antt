@@ -36,9 +36,9 @@ use Rattle.ep_drill.specs.declared.data.FoundData.TheVariants as founds
 use Rattle.ep_drill.specs.declared.part.Part.{Part}
 use Rattle.ep_drill.specs.declared.part.Part.TheVariants as parts
 use Rattle.flat_parts.specs.Nodes.{node_of, node_at, outcome_at, settled, is_waiting_outcome, first_waiting}
-use Rattle.ep_drill.specs.Stands.{IsGone, OutcomeStands, ticket_of, PlaceStands, StripeStands, DeskStands, FoundStands, FetchedStands}
+use Rattle.ep_drill.specs.Stands.{MayBeGone, OutcomeStands, ticket_of, PlaceStands, StripeStands, DeskStands, FoundStands, FetchedStands}
 use Rattle.ep_drill.specs.Parts.{Becomes}
-use Rattle.ep_drill.specs.Fetches.{settles, put_back_value, put_back_node, put_back_found, IsOldest, IsFoundIn, Reads, IsBack, HasPlace, HasOutcome, HasValue}
+use Rattle.ep_drill.specs.Fetches.{settles, put_back_value, put_back_node, put_back_found, IsOldest, IsFoundIn, Reads, IsBack, TicketHasPlace, HasOutcome, HasValue}
 use Rattle.ep_drill.proofs.AskLemmas.{place_at, ticket_is}
 use Rattle.hold_stage.proofs.WaitLemmas.{waiting_low}
 use Rattle.ep_drill.proofs.StoreLemmas.{waiting_stored, fetched_key, fetched_any, fetched_row, has_start}
@@ -184,7 +184,7 @@ module _ (f : FrontData) (ticket : Ticket) (key : List ℕ) (found : FoundData) 
     ]
 
     -- so it can't be that it does not
-    no_gone : (docs : Option Doc) → docs ≡ Some (doc_from meta value) → IsGone (marked f ticket.stripe) docs → ⊥
+    no_gone : (docs : Option Doc) → docs ≡ Some (doc_from meta value) → MayBeGone (marked f ticket.stripe) docs → ⊥
     no_gone None is-doc gone = cc
     no_gone (Some doc) is-doc gone =
         let e : doc ≡ doc_from meta value = cc in
@@ -281,8 +281,8 @@ here_told : (ticket : Ticket) (left now other : Option Part) → left ≡ cond (
 here_told ticket left now other is = is ∙ ap (λ b. cond b now other) ((Decides-eqb ticket.stripe ticket.stripe).1 refl)
 
 -- the place of a ticket that a part has
-pub part_place : (part : Option Part) (ticket : Ticket) (x : StripeData) → part ≡ Some (parts.Stripe x) → (outcome_at x.places ticket.number ≡ None → ⊥) → HasPlace part ticket
-part_place part ticket x is has = subst (λ (o : Option Part). HasPlace o ticket) (sym is) has
+pub part_place : (part : Option Part) (ticket : Ticket) (x : StripeData) → part ≡ Some (parts.Stripe x) → (outcome_at x.places ticket.number ≡ None → ⊥) → TicketHasPlace part ticket
+part_place part ticket x is has = subst (λ (o : Option Part). TicketHasPlace o ticket) (sym is) has
 
 -- A stripe was settled and given back: `tells` and `new` are what is told of the parts before and after.
 module _ (f₀ f : FrontData) (ticket : Ticket) (telling : Bool) (tells new : PartName → Option Part) (x : StripeData) (outcome : Outcome)

@@ -23,8 +23,8 @@ use Rattle.ep_drill.specs.declared.part.Part.TheVariants as parts
 use Rattle.flat_parts.specs.declared.data.StripeData.{StripeData}
 use Rattle.flat_parts.specs.declared.data.QueueData.{QueueData}
 use Rattle.ep_drill.specs.Parts.{part_stands}
-use Rattle.ep_drill.specs.Stands.{IsGone, StripeStands, QueueStands}
-use Rattle.ep_drill.specs.Opens.{empty_stripe, empty_queue, bare_stripes, bare_list, IsNew}
+use Rattle.ep_drill.specs.Stands.{MayBeGone, StripeStands, QueueStands}
+use Rattle.ep_drill.specs.Opens.{empty_stripe, empty_queue, bare_stripes, bare_list, HasJustOpened}
 
 or_false : (b : Bool) → (b || false) ≡ true → b ≡ true
 or_false true is = refl
@@ -40,7 +40,7 @@ stripe_new f stripe here = record {
   there = here;
   index = refl;
   nodes = λ key node is. absurd (cc);
-  gone = λ opened key at is. subst (λ (o : Option Doc). IsGone 0 o) (sym (get-empty _ key)) tt;
+  gone = λ opened key at is. subst (λ (o : Option Doc). MayBeGone 0 o) (sym (get-empty _ key)) tt;
   mark = refl;
   state = refl;
   opened = refl;
@@ -50,13 +50,13 @@ stripe_new f stripe here = record {
   is_told = refl;
 }
 
-front_is : (f : FrontData) → IsNew f → f ≡ front_with f (Some empty_start) (events.Opened ∷ [])
+front_is : (f : FrontData) → HasJustOpened f → f ≡ front_with f (Some empty_start) (events.Opened ∷ [])
 front_is f new = ap (λ (o : Option StartData). front_with f o f.events) new.start ∙ ap (λ (l : List EventData). front_with f (Some empty_start) l) new.events
 
-stripe_opened : (f : FrontData) (stripe : ℕ) → IsNew f → nat_lt stripe f.config.stripes ≡ true → StripeStands f stripe (empty_stripe true stripe)
+stripe_opened : (f : FrontData) (stripe : ℕ) → HasJustOpened f → nat_lt stripe f.config.stripes ≡ true → StripeStands f stripe (empty_stripe true stripe)
 stripe_opened f stripe new here = subst (λ (g : FrontData). StripeStands g stripe (empty_stripe true stripe)) (sym (front_is f new)) (stripe_new f stripe here)
 
-pub stripe_given : (f g : FrontData) (stripe : ℕ) (bare x : StripeData) → IsNew f → g ≡ f → stripe < f.config.stripes → bare ≡ empty_stripe false stripe → x ≡ record bare { opened = true } → StripeStands g stripe x
+pub stripe_given : (f g : FrontData) (stripe : ℕ) (bare x : StripeData) → HasJustOpened f → g ≡ f → stripe < f.config.stripes → bare ≡ empty_stripe false stripe → x ≡ record bare { opened = true } → StripeStands g stripe x
 stripe_given f g stripe bare x new front here is opens =
     subst (λ (h : FrontData). StripeStands h stripe x) (sym front)
     (subst (λ (y : StripeData). StripeStands f stripe y) (sym (opens ∙ ap (λ (y : StripeData). record y { opened = true }) is)) (stripe_opened f stripe new (grind (arith, nat_tests))))

@@ -38,7 +38,7 @@ use Rattle.flat_parts.specs.Steps.{page_step, restored}
 use Rattle.hold_stage.proofs.RisesLemmas.{high_rises, opened_unstored}
 use Rattle.hold_stage.specs.Waits.{IsNoRead, IsFaultWithin, IsAbsent}
 use Rattle.hold_stage.specs.Numbers.{all_numbered}
-use Rattle.ep_drill.specs.Stands.{ValueStands, NodeStands, IsGone, OutcomeStands, ticket_of, PlaceStands, StripeStands, QueueStands, HoldsIfTelling, ContentStands, DeskStands, BatchStands}
+use Rattle.ep_drill.specs.Stands.{ValueStands, NodeStands, MayBeGone, OutcomeStands, ticket_of, PlaceStands, StripeStands, QueueStands, HoldsIfTelling, ContentStands, DeskStands, BatchStands}
 use Rattle.hold_stage.proofs.ApartLemmas.{has_failed_later, waiting_later, mutations_step, same_table}
 use Rattle.ep_drill.proofs.ReadLemmas.{IsCalm, places_calm, stripe_calm}
 use Rattle.ep_drill.proofs.AskLemmas.{with_places, ticket_is}
@@ -59,7 +59,7 @@ module _ (f : FrontData) (stripe number : ℕ) (x : StripeData) (opened : (world
   raised_value doc None h = ((let a = h.0 in let m = mark in omega arith), h.1)
   raised_value doc (Some value) h = h
 
-  raised_gone : (found : Option Doc) → IsGone (marked f stripe) found → IsGone (marked (with_event f event) stripe) found
+  raised_gone : (found : Option Doc) → MayBeGone (marked f stripe) found → MayBeGone (marked (with_event f event) stripe) found
   raised_gone None h = h
   raised_gone (Some doc) h = ((let a = h.0 in let m = mark in omega arith), h.1)
 
@@ -81,7 +81,7 @@ module _ (f : FrontData) (stripe number : ℕ) (x : StripeData) (opened : (world
             let n = s.nodes key node is in
             record { doc = n.doc; found = ap (λ (w : World). get w.docs key) same ∙ n.found; here = n.here; meta = n.meta; value = raised_value n.doc node.value n.value };
         gone = λ now-open key here none-there.
-            subst (λ (w : World). IsGone (marked (with_event f event) stripe) (get w.docs key)) (sym same) (raised_gone (get (world_of f).docs key) (s.gone opened key here none-there));
+            subst (λ (w : World). MayBeGone (marked (with_event f event) stripe) (get w.docs key)) (sym same) (raised_gone (get (world_of f).docs key) (s.gone opened key here none-there));
         mark = sym mark;
         state = s.state ∙ sym (ap (λ (w : World). w.state) same);
         opened = s.opened ∙ sym (ap (λ (w : World). w.opened) same);
@@ -227,7 +227,7 @@ restored_stands f stripe key doc x node found stands s = record {
         | false ↦ λ t e. s.nodes k other e
       ] refl (sym (node_at_put x.nodes (node_of key doc) k) ∙ is);
   gone = λ opened k here is.
-      elim (bytes_eq key k) as (λ b. bytes_eq key k ≡ b → cond b (Some (node_of key doc)) (node_at x.nodes k) ≡ None → IsGone (marked f stripe) (get (world_of f).docs k)) [
+      elim (bytes_eq key k) as (λ b. bytes_eq key k ≡ b → cond b (Some (node_of key doc)) (node_at x.nodes k) ≡ None → MayBeGone (marked f stripe) (get (world_of f).docs k)) [
         | true ↦ λ t e. absurd (cc)
         | false ↦ λ t e. s.gone opened k here e
       ] refl (sym (node_at_put x.nodes (node_of key doc) k) ∙ is);

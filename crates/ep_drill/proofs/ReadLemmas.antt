@@ -29,7 +29,7 @@ use Rattle.flat_parts.specs.declared.data.Step.{Step}
 use Rattle.flat_parts.specs.declared.data.Step.TheVariants as steps
 use Rattle.flat_parts.specs.Nodes.{is_not_numbered, released}
 use Rattle.flat_parts.specs.Steps.{read_done, read_refused}
-use Rattle.ep_drill.specs.Stands.{ValueStands, IsGone, OutcomeStands, ticket_of, PlaceStands, StripeStands}
+use Rattle.ep_drill.specs.Stands.{ValueStands, MayBeGone, OutcomeStands, ticket_of, PlaceStands, StripeStands}
 use Rattle.hold_stage.proofs.ApartLemmas.{has_failed_later, waiting_later}
 
 -- What a call on parts comes to is legal, and leaves a stripe that stands. A ticket that was asked before is told again without an
@@ -102,8 +102,8 @@ stripe_calm f stripe event x places next same mark stand below closed s =
             value = subst (λ k. ValueStands k n.doc node.value) (sym m) n.value;
           };
       gone = λ opened key here none-there.
-          subst (λ (w : World). IsGone (marked (with_event f event) stripe) (get w.docs key)) (sym same)
-          (subst (λ k. IsGone k (get (world_of f).docs key)) (sym m) (s.gone (sym (ap (λ (w : World). w.opened) same) ∙ opened) key here none-there));
+          subst (λ (w : World). MayBeGone (marked (with_event f event) stripe) (get w.docs key)) (sym same)
+          (subst (λ k. MayBeGone k (get (world_of f).docs key)) (sym m) (s.gone (sym (ap (λ (w : World). w.opened) same) ∙ opened) key here none-there));
       mark = s.mark ∙ sym m;
       state = s.state ∙ sym (ap (λ (w : World). w.state) same);
       opened = s.opened ∙ sym (ap (λ (w : World). w.opened) same);

@@ -47,7 +47,7 @@ use Rattle.flat_parts.specs.declared.data.Step.TheVariants as steps
 use Rattle.flat_parts.specs.Nodes.{node_of, node_at, put_node, released, forgotten}
 use Rattle.flat_parts.specs.Steps.{shown_value, shown_docs, shown_world, stripe_after, queue_after, write_step}
 use Rattle.hold_stage.specs.Numbers.{Numbers, numbered, all_numbered}
-use Rattle.ep_drill.specs.Stands.{ValueStands, NodeStands, IsGone, OutcomeStands, ticket_of, PlaceStands, StripeStands, QueueStands}
+use Rattle.ep_drill.specs.Stands.{ValueStands, NodeStands, MayBeGone, OutcomeStands, ticket_of, PlaceStands, StripeStands, QueueStands}
 use Rattle.hold_stage.proofs.ApartLemmas.{has_failed_later, waiting_later, mutations_step, same_table}
 use Rattle.ep_drill.proofs.AskLemmas.{with_places}
 use Rattle.ep_drill.proofs.ReadLemmas.{all_filter, all_map, IsCalm, places_calm, stripe_calm, released_all, released_none}
@@ -101,7 +101,7 @@ live_meta doc other now deleted expiry cas =
     at true = ap Some cas
     at false = refl
 
-gone_cas : (mark now : ℕ) (found : Option Doc) → IsGone mark found → cas_of (live_of found now) ≡ None
+gone_cas : (mark now : ℕ) (found : Option Doc) → MayBeGone mark found → cas_of (live_of found now) ≡ None
 gone_cas mark now None gone = refl
 gone_cas mark now (Some doc) gone = ap (λ b. cas_of (cond (not b && (doc.expiry == 0 || nat_lt (secs now) doc.expiry)) (Some doc) None)) gone.1
 
@@ -228,13 +228,13 @@ module _ (f : FrontData) (stripe caller now : ℕ) (key : List ℕ) (call : Call
                 }
           ] refl is
 
-      gone_put : (k : List ℕ) → stripe_of k f.config.stripes ≡ stripe → cond (bytes_eq key k) (Some (node_of key doc)) (node_at x.nodes k) ≡ None → IsGone (marked (with_event f event) stripe) (get (world_of (with_event f event)).docs k)
+      gone_put : (k : List ℕ) → stripe_of k f.config.stripes ≡ stripe → cond (bytes_eq key k) (Some (node_of key doc)) (node_at x.nodes k) ≡ None → MayBeGone (marked (with_event f event) stripe) (get (world_of (with_event f event)).docs k)
       gone_put k k-here is =
-          elim (bytes_eq key k) as (λ b. bytes_eq key k ≡ b → cond b (Some (node_of key doc)) (node_at x.nodes k) ≡ None → IsGone (marked (with_event f event) stripe) (get (world_of (with_event f event)).docs k)) [
+          elim (bytes_eq key k) as (λ b. bytes_eq key k ≡ b → cond b (Some (node_of key doc)) (node_at x.nodes k) ≡ None → MayBeGone (marked (with_event f event) stripe) (get (world_of (with_event f event)).docs k)) [
             | true ↦ λ t e. absurd (cc)
             | false ↦ λ t e.
-                subst (λ (o : Option Doc). IsGone (marked (with_event f event) stripe) o) (sym (ap (λ (w : World). get w.docs k) world ∙ get-put_other (world_of f) key k doc (other_key key k t)))
-                (subst (λ m. IsGone m (get (world_of f).docs k)) (sym mark) (s.gone opened k k-here e))
+                subst (λ (o : Option Doc). MayBeGone (marked (with_event f event) stripe) o) (sym (ap (λ (w : World). get w.docs k) world ∙ get-put_other (world_of f) key k doc (other_key key k t)))
+                (subst (λ m. MayBeGone m (get (world_of f).docs k)) (sym mark) (s.gone opened k k-here e))
           ] refl is
 
   queue_put : (q : QueueData) (doc : Doc) → world_of (with_event f event) ≡ apply (world_of f) (Puts key doc) → mutation_of (world_of f) event ≡ Some (key, doc) → doc.seqno ≡ (world_of f).high + 1 → QueueStands f q → QueueStands (with_event f event) (queue_after q (Puts key doc))

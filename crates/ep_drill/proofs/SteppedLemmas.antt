@@ -19,15 +19,15 @@ use Rattle.ep_drill.specs.declared.data.CoreData.{CoreData}
 use Rattle.ep_drill.specs.declared.store.Paged.{Paged}
 use Rattle.ep_drill.specs.StoreSide.{IsPaged}
 use Rattle.hold_stage.specs.Stays.{KeptBut}
-use Rattle.ep_drill.specs.Core.{bench_data, core_data, Moved, Rested, Interleaves, GoesOn, LacksRoom}
+use Rattle.ep_drill.specs.Core.{bench_data, core_data, Moved, Rested, Interleaves, GoesOn, LacksEventRoom}
 use Rattle.ep_drill.specs.Fetches.{HasWaiting}
 use Rattle.ep_drill.specs.Stepped.{AtBench, BenchIs, IsBenched, WasPaged, Ran, RanSome, Spares, Stepped, TakesMemory}
 use Rattle.ep_drill.proofs.EngineLemmas.{bench_at}
 use Rattle.ep_drill.proofs.ListLemmas.{set_same}
 
 -- a core's history has no room for one event more
-lacks_room : {K : Type 0} (old : CoreData) (config : Config) (w : WorldData Part) (benches : List (Bench K)) (callers : List Caller) → core_data config w benches callers ≡ old → LacksRoom w → LacksRoom old.world
-lacks_room old config w benches callers is lacks = subst (λ (o : CoreData). LacksRoom o.world) is lacks
+lacks_room : {K : Type 0} (old : CoreData) (config : Config) (w : WorldData Part) (benches : List (Bench K)) (callers : List Caller) → core_data config w benches callers ≡ old → LacksEventRoom w → LacksEventRoom old.world
+lacks_room old config w benches callers is lacks = subst (λ (o : CoreData). LacksEventRoom o.world) is lacks
 
 -- A step was made at the bench that stands at a place, which is the vBucket's number.
 module _ {K : Type 0} (old : CoreData) (config : Config) (w z : WorldData Part) (benches : List (Bench K)) (callers : List Caller) (place vb : ℕ) (bench : Bench K) (is : core_data config w benches callers ≡ old) (here : place ≡ vb) (at : slice_get benches place ≡ Some bench) where
@@ -70,14 +70,14 @@ module _ {K : Type 0} (old : CoreData) (config : Config) (w z : WorldData Part) 
   pub bench_is : (Q : BenchData → Type 0) → Q (bench_data bench) → BenchIs old vb Q
   bench_is Q holds = subst (λ (o : CoreData). BenchIs o vb Q) is (bench_data bench, found_first, holds)
 
-  pub benched_err : {E : Type 0} (after : Bench K) (Q : BenchData → Type 0) (result : Result Answer E) → OnErr result (Rested config w z × (bench_data after ≡ bench_data bench) × Q (bench_data bench) × LacksRoom w)
-      → OnErr result (Spares old (core_data config z (slice_set benches place after) callers) × BenchIs old vb Q × LacksRoom old.world)
+  pub benched_err : {E : Type 0} (after : Bench K) (Q : BenchData → Type 0) (result : Result Answer E) → OnErr result (Rested config w z × (bench_data after ≡ bench_data bench) × Q (bench_data bench) × LacksEventRoom w)
+      → OnErr result (Spares old (core_data config z (slice_set benches place after) callers) × BenchIs old vb Q × LacksEventRoom old.world)
   benched_err after Q (Ok answer) err = tt
   benched_err after Q (Err e) err = (spared_at after err.0 err.1, bench_is Q err.2, lacks_room old config w benches callers is err.3)
 
   -- the same for a merge, whose stripe is there
-  pub merge_err : {E : Type 0} (after : Bench K) (stripe : ℕ) (Q : BenchData → Type 0) (result : Result Answer E) → stripe < config.stripes → OnErr result (Rested config w z × (bench_data after ≡ bench_data bench) × Q (bench_data bench) × LacksRoom w)
-      → OnErr result (Spares old (core_data config z (slice_set benches place after) callers) × (stripe < old.config.stripes) × BenchIs old vb Q × LacksRoom old.world)
+  pub merge_err : {E : Type 0} (after : Bench K) (stripe : ℕ) (Q : BenchData → Type 0) (result : Result Answer E) → stripe < config.stripes → OnErr result (Rested config w z × (bench_data after ≡ bench_data bench) × Q (bench_data bench) × LacksEventRoom w)
+      → OnErr result (Spares old (core_data config z (slice_set benches place after) callers) × (stripe < old.config.stripes) × BenchIs old vb Q × LacksEventRoom old.world)
   merge_err after stripe Q (Ok answer) there err = tt
   merge_err after stripe Q (Err e) there err = (spared_at after err.0 err.1, subst (λ (o : CoreData). stripe < o.config.stripes) is there, bench_is Q err.2, lacks_room old config w benches callers is err.3)
 
@@ -95,7 +95,7 @@ spared_world old config w z benches callers is rested =
     subst (λ (o : CoreData). Spares o (core_data config z benches callers)) is (record { left = refl; rested = rested })
 
 pub mark_err : {K : Type 0} {E : Type 0} (old : CoreData) (config : Config) (w z : WorldData Part) (benches : List (Bench K)) (callers : List Caller) (vb stripe : ℕ) (result : Result Answer E) → core_data config w benches callers ≡ old → vb < config.vbuckets
-    → stripe < config.stripes → OnErr result (Rested config w z × LacksRoom w) → OnErr result (Spares old (core_data config z benches callers) × (vb < old.config.vbuckets) × (stripe < old.config.stripes) × LacksRoom old.world)
+    → stripe < config.stripes → OnErr result (Rested config w z × LacksEventRoom w) → OnErr result (Spares old (core_data config z benches callers) × (vb < old.config.vbuckets) × (stripe < old.config.stripes) × LacksEventRoom old.world)
 mark_err old config w z benches callers vb stripe (Ok answer) is low within err = tt
 mark_err old config w z benches callers vb stripe (Err e) is low within err =
     let layout : config ≡ old.config = ap (λ (o : CoreData). o.config) is in

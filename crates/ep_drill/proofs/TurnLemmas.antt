@@ -26,7 +26,7 @@ use Rattle.ep_drill.specs.Parts.{part_stands}
 use Rattle.hold_stage.specs.Went.{with_noted}
 use Rattle.ep_drill.specs.Calls.{event_of}
 use Rattle.ep_drill.specs.Callers.{CallerStands, caller_data, loaded_data, next_of, after_step, tried_of}
-use Rattle.ep_drill.specs.Core.{IsOn, NextMayWant, Ready, Moved, Rested, Turned, Interleaves, Continues, GoesOn, calls_of, core_data}
+use Rattle.ep_drill.specs.Core.{IsOn, NextMayWant, Ready, Moved, Rested, CallerTurned, Interleaves, Continues, GoesOn, calls_of, core_data}
 use Rattle.ep_drill.specs.Stepped.{WasTried, IsFronted, IsIdle, Spares, TurnTakes, answer_of}
 use Rattle.ep_drill.specs.Stepped.IsIdle.{NoCaller, NoCall, NoMoment}
 use Rattle.ep_drill.proofs.CoreLemmas.{core_tried, core_rested, calls_same}
@@ -93,7 +93,7 @@ module _ (core : CoreData) (z : WorldData Part) (number : ℕ) (caller after : C
   turned_err : Rested core.config core.world z → after ≡ caller → Goes
   turned_err rested same = turned_rested 0 (record { ready = rested.ready; front = rested.fronts 0; others = λ u differ. rested.fronts u; apart = λ u differ p. rested.parts u p }) same
 
-  turned_some : (now : ℕ) (value : List ℕ) (step : Step) → Turned core.config number now core.world z caller after value (Some step) → Goes
+  turned_some : (now : ℕ) (value : List ℕ) (step : Step) → CallerTurned core.config number now core.world z caller after value (Some step) → Goes
   turned_some now value step turned =
       let same : after ≡ after_step step caller = turned.3 in (
         subst (λ (c : CallerData). Interleaves (record core { world = z; callers = slice_set core.callers number c })) (sym same)
@@ -105,7 +105,7 @@ module _ (core : CoreData) (z : WorldData Part) (number : ℕ) (caller after : C
         },
       )
 
-  turned_data : {E : Type 0} (now : ℕ) (value : List ℕ) (result : Result (Option Step) E) → IfOk result (Turned core.config number now core.world z caller after value)
+  turned_data : {E : Type 0} (now : ℕ) (value : List ℕ) (result : Result (Option Step) E) → IfOk result (CallerTurned core.config number now core.world z caller after value)
       → OnErr result (Rested core.config core.world z × (after ≡ caller) × IsSome (next_of caller)) → Goes
   turned_data now value (Ok None) ok err = turned_none ok.0 ok.1
   turned_data now value (Ok (Some step)) ok err = turned_some now value step ok
@@ -113,7 +113,7 @@ module _ (core : CoreData) (z : WorldData Part) (number : ℕ) (caller after : C
 
 -- A caller's turn: the core is as it should be, and goes on.
 pub turned_core : {K : Type 0} {E : Type 0} (config : Config) (w z : WorldData Part) (benches : List (Bench K)) (callers : List Caller) (number now : ℕ) (caller after : Caller) (value : List ℕ) (result : Result (Option Step) E)
-    → Interleaves (core_data config w benches callers) → slice_get callers number ≡ Some caller → IfOk result (Turned config number now w z (caller_data caller) (caller_data after) value)
+    → Interleaves (core_data config w benches callers) → slice_get callers number ≡ Some caller → IfOk result (CallerTurned config number now w z (caller_data caller) (caller_data after) value)
     → OnErr result (Rested config w z × (caller_data after ≡ caller_data caller) × IsSome (next_of (caller_data caller))) → Sound part_stands z
     → Interleaves (core_data config z benches (slice_set callers number after)) × GoesOn (core_data config w benches callers) (core_data config z benches (slice_set callers number after))
 turned_core config w z benches callers number now caller after value result i at ok err sound =
@@ -125,7 +125,7 @@ turned_core config w z benches callers number now caller after value result i at
 -- The same as a function has it: the caller stands at a place that is its number, and the core before is told by its fields.
 pub turned_at : {K : Type 0} {E : Type 0} (old : CoreData) (config : Config) (w z : WorldData Part) (benches : List (Bench K)) (callers : List Caller) (place number told now : ℕ) (caller after : Caller) (value : List ℕ)
     (result : Result (Option Step) E) → core_data config w benches callers ≡ old → place ≡ told → number ≡ told
-    → Interleaves (core_data config w benches callers) → slice_get callers place ≡ Some caller → IfOk result (Turned config number now w z (caller_data caller) (caller_data after) value)
+    → Interleaves (core_data config w benches callers) → slice_get callers place ≡ Some caller → IfOk result (CallerTurned config number now w z (caller_data caller) (caller_data after) value)
     → OnErr result (Rested config w z × (caller_data after ≡ caller_data caller) × IsSome (next_of (caller_data caller))) → Sound part_stands z
     → Interleaves (core_data config z benches (slice_set callers place after)) × GoesOn old (core_data config z benches (slice_set callers place after))
 turned_at old config w z benches callers place number told now caller after value result is here its i at ok err sound =
@@ -159,7 +159,7 @@ caller_told old config w benches callers place told caller is here at =
 -- what a core answers of a caller's turn
 pub fronted_at : {K : Type 0} {E : Type 0} (old : CoreData) (config : Config) (w z : WorldData Part) (benches : List (Bench K)) (callers : List Caller) (place number told now : ℕ) (caller after : Caller) (value : List ℕ)
     (result : Result (Option Step) E) → core_data config w benches callers ≡ old → place ≡ told → number ≡ told → slice_get callers place ≡ Some caller → IsMoment now
-    → IfOk result (Turned config number now w z (caller_data caller) (caller_data after) value) → IfOk (answer_of result) (IsFronted old (core_data config z benches (slice_set callers place after)) told now)
+    → IfOk result (CallerTurned config number now w z (caller_data caller) (caller_data after) value) → IfOk (answer_of result) (IsFronted old (core_data config z benches (slice_set callers place after)) told now)
 fronted_at old config w z benches callers place number told now caller after value (Err e) is here its at early ok = tt
 fronted_at old config w z benches callers place number told now caller after value (Ok None) is here its at early ok =
     let first : CoreData = core_data config w benches callers in

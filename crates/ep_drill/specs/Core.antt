@@ -32,7 +32,7 @@ use Rattle.hold_stage.specs.Stays.{KeptBut}
 use Rattle.ep_drill.specs.Callers.{CallerStands, caller_data, next_of, after_step}
 use Rattle.ep_drill.specs.Fetches.{fetched_data}
 use Rattle.ep_drill.specs.Stands.{DeskStands, BatchStands, FetchedStands}
-use Rattle.ep_drill.specs.Tries.{ComesTo, NeedsMemory}
+use Rattle.ep_drill.specs.Tries.{CallComesTo, NeedsMemory}
 
 abbrev pub bench_data : {K : Type 0} → Bench K → BenchData
 bench_data bench = record { desk = bench.desk; batch = bench.batch; reads = map (option_map fetched_data) bench.reads.items }
@@ -75,8 +75,8 @@ pub record Worked (config : Config) (vb : ℕ) (old new : WorldData Part) : Type
   pub quiet : IfSome event (λ e. is_call e ≡ false)
 
 -- the history has no room for one event more
-abbrev pub LacksRoom : WorldData Part → Type 0
-LacksRoom world = world.event_room ≡ 0
+abbrev pub LacksEventRoom : WorldData Part → Type 0
+LacksEventRoom world = world.event_room ≡ 0
 
 -- or not for one of a call, with as many bytes as it may take
 abbrev pub LacksCallRoom : WorldData Part → Type 0
@@ -97,11 +97,11 @@ pub record Rested (config : Config) (old new : WorldData Part) : Type 0 where
   pub parts : (u : ℕ) (p : PartName) → part_in new u p ≡ part_in old u p
 
 -- A caller's next call came to this, and its event is noted where it has one; or there is no next call, and nothing happened.
-abbrev pub Turned : Config → ℕ → ℕ → WorldData Part → WorldData Part → CallerData → CallerData → List ℕ → Option Step → Type 0
-Turned config number now old new caller after value None = (new ≡ old) × (after ≡ caller) × (next_of caller ≡ None)
-Turned config number now old new caller after value (Some step) =
+abbrev pub CallerTurned : Config → ℕ → ℕ → WorldData Part → WorldData Part → CallerData → CallerData → List ℕ → Option Step → Type 0
+CallerTurned config number now old new caller after value None = (new ≡ old) × (after ≡ caller) × (next_of caller ≡ None)
+CallerTurned config number now old new caller after value (Some step) =
     (call : ℕ × CallData) × (next_of caller ≡ Some call) × Moved config call.0 (event_of number call.1 now caller.prior value step) old new × (after ≡ after_step step caller)
-    × ComesTo config (part_in old call.0) (part_in new call.0) call.1 now caller.prior step
+    × CallComesTo config (part_in old call.0) (part_in new call.0) call.1 now caller.prior step
     × KeptBut config (touches_call config call.1) (part_in old call.0) (part_in new call.0)
 
 -- the call is on a vBucket that there is

@@ -117,17 +117,17 @@ HasWaiting (Some (parts.Queue q)) = ⊥
 HasWaiting (Some (parts.Desk d)) = ⊥
 
 -- the place of a ticket still stands in a stripe
-abbrev pub HasPlace : Option Part → Ticket → Type 0
-HasPlace None ticket = ⊥
-HasPlace (Some (parts.Stripe x)) ticket = (outcome_at x.places ticket.number ≡ None) → ⊥
-HasPlace (Some (parts.Queue q)) ticket = ⊥
-HasPlace (Some (parts.Desk d)) ticket = ⊥
+abbrev pub TicketHasPlace : Option Part → Ticket → Type 0
+TicketHasPlace None ticket = ⊥
+TicketHasPlace (Some (parts.Stripe x)) ticket = (outcome_at x.places ticket.number ≡ None) → ⊥
+TicketHasPlace (Some (parts.Queue q)) ticket = ⊥
+TicketHasPlace (Some (parts.Desk d)) ticket = ⊥
 
-abbrev pub HasNoPlace : Option Part → Ticket → Type 0
-HasNoPlace None ticket = ⊥
-HasNoPlace (Some (parts.Stripe x)) ticket = outcome_at x.places ticket.number ≡ None
-HasNoPlace (Some (parts.Queue q)) ticket = ⊥
-HasNoPlace (Some (parts.Desk d)) ticket = ⊥
+abbrev pub TicketHasNoPlace : Option Part → Ticket → Type 0
+TicketHasNoPlace None ticket = ⊥
+TicketHasNoPlace (Some (parts.Stripe x)) ticket = outcome_at x.places ticket.number ≡ None
+TicketHasNoPlace (Some (parts.Queue q)) ticket = ⊥
+TicketHasNoPlace (Some (parts.Desk d)) ticket = ⊥
 
 -- in a stripe the place of a ticket has this outcome
 abbrev pub HasOutcome : Option Part → Ticket → Outcome → Type 0
@@ -168,8 +168,8 @@ put_back_found x key founds.NoMemory = x
 -- A read is stale exactly where nobody waits at its ticket. Else it ends as it says, whoever waits there finds that, and a failure
 -- is told. What was read is in memory then, and nothing else changes in the stripe.
 abbrev pub IsMerged : FrontData → FrontData → Option Part → Option Part → FetchedData → Merging → Type 0
-IsMerged old new part left fetched mergings.Merged = (new ≡ old) × HasPlace part fetched.ticket × HasOutcome left fetched.ticket outcomes.Merged × HasValue left fetched.key × IsRow fetched.found × Becomes part left (λ x. settles (put_back_found x fetched.key fetched.found) fetched.ticket.number outcomes.Merged)
-IsMerged old new part left fetched mergings.Absent = (new ≡ old) × HasPlace part fetched.ticket × (fetched.found ≡ founds.Absent) × HasOutcome left fetched.ticket outcomes.Absent × Becomes part left (λ x. settles x fetched.ticket.number outcomes.Absent)
-IsMerged old new part left fetched mergings.Stale = (new ≡ old) × (left ≡ part) × HasNoPlace part fetched.ticket
-IsMerged old new part left fetched mergings.Failed = (fault : ℕ) × (fetched.found ≡ founds.Failed fault) × (new ≡ with_event old (events.ReadFailed fetched.ticket fault)) × HasPlace part fetched.ticket × HasOutcome left fetched.ticket (outcomes.Failed fault) × Becomes part left (λ x. settles x fetched.ticket.number (outcomes.Failed fault))
-IsMerged old new part left fetched mergings.NoMemory = (new ≡ old) × (fetched.found ≡ founds.NoMemory) × HasPlace part fetched.ticket × HasOutcome left fetched.ticket outcomes.NoMemory × Becomes part left (λ x. settles x fetched.ticket.number outcomes.NoMemory)
+IsMerged old new part left fetched mergings.Merged = (new ≡ old) × TicketHasPlace part fetched.ticket × HasOutcome left fetched.ticket outcomes.Merged × HasValue left fetched.key × IsRow fetched.found × Becomes part left (λ x. settles (put_back_found x fetched.key fetched.found) fetched.ticket.number outcomes.Merged)
+IsMerged old new part left fetched mergings.Absent = (new ≡ old) × TicketHasPlace part fetched.ticket × (fetched.found ≡ founds.Absent) × HasOutcome left fetched.ticket outcomes.Absent × Becomes part left (λ x. settles x fetched.ticket.number outcomes.Absent)
+IsMerged old new part left fetched mergings.Stale = (new ≡ old) × (left ≡ part) × TicketHasNoPlace part fetched.ticket
+IsMerged old new part left fetched mergings.Failed = (fault : ℕ) × (fetched.found ≡ founds.Failed fault) × (new ≡ with_event old (events.ReadFailed fetched.ticket fault)) × TicketHasPlace part fetched.ticket × HasOutcome left fetched.ticket (outcomes.Failed fault) × Becomes part left (λ x. settles x fetched.ticket.number (outcomes.Failed fault))
+IsMerged old new part left fetched mergings.NoMemory = (new ≡ old) × (fetched.found ≡ founds.NoMemory) × TicketHasPlace part fetched.ticket × HasOutcome left fetched.ticket outcomes.NoMemory × Becomes part left (λ x. settles x fetched.ticket.number outcomes.NoMemory)

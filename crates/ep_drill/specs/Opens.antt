@@ -53,7 +53,7 @@ is_below n Queue = false
 is_below n Desk = false
 
 -- all that happened is that it opened with nothing stored
-pub record IsNew (f : FrontData) : Type 0 where
+pub record HasJustOpened (f : FrontData) : Type 0 where
   pub start : f.start ≡ Some empty_start
   pub events : f.events ≡ Opened ∷ []
 
@@ -78,19 +78,19 @@ abbrev pub reads_in : Vec (Option Fetched) Global → List (Option Fetched)
 reads_in reads = reads.items
 
 -- the calls that a core can make: a Get, or a Set
-abbrev pub IsServed : CallData → Type 0
-IsServed (calls.Get key) = Unit {0}
-IsServed (calls.Store SetKind key value flags expiration cas) = Unit {0}
-IsServed (calls.Store AddKind key value flags expiration cas) = ⊥
-IsServed (calls.Store ReplaceKind key value flags expiration cas) = ⊥
-IsServed (calls.Join front key value cas) = ⊥
-IsServed (calls.Count down key delta initial expiration cas) = ⊥
-IsServed (calls.Delete key cas) = ⊥
-IsServed (calls.Touch key expiration fetch) = ⊥
-IsServed (calls.Observe uuid) = ⊥
-IsServed calls.Failovers = ⊥
-IsServed (calls.SetState state) = ⊥
-IsServed calls.GetState = ⊥
+abbrev pub CanBeLoaded : CallData → Type 0
+CanBeLoaded (calls.Get key) = Unit {0}
+CanBeLoaded (calls.Store SetKind key value flags expiration cas) = Unit {0}
+CanBeLoaded (calls.Store AddKind key value flags expiration cas) = ⊥
+CanBeLoaded (calls.Store ReplaceKind key value flags expiration cas) = ⊥
+CanBeLoaded (calls.Join front key value cas) = ⊥
+CanBeLoaded (calls.Count down key delta initial expiration cas) = ⊥
+CanBeLoaded (calls.Delete key cas) = ⊥
+CanBeLoaded (calls.Touch key expiration fetch) = ⊥
+CanBeLoaded (calls.Observe uuid) = ⊥
+CanBeLoaded calls.Failovers = ⊥
+CanBeLoaded (calls.SetState state) = ⊥
+CanBeLoaded calls.GetState = ⊥
 
 -- the callers, one of them with a call more at its end
 abbrev pub loaded_at : ℕ → ℕ × CallData → List CallerData → List CallerData
@@ -110,11 +110,11 @@ pub record FirstOpened (config : Config) (n : ℕ) (world : WorldData Part) : Ty
   pub home : (vb : ℕ) → vb < length world.buckets → AreHome config (part_in world vb)
 
 -- a store tells that it holds nothing, and it isn't in doubt
-abbrev pub IsFresh : KeeperData → Type 0
-IsFresh keeper = (keeper.content ≡ Some empty_content) × (keeper.sure ≡ true)
+abbrev pub TellsEmpty : KeeperData → Type 0
+TellsEmpty keeper = (keeper.content ≡ Some empty_content) × (keeper.sure ≡ true)
 
-abbrev pub AreFresh : List KeeperData → Type 0
-AreFresh keepers = AllByRecursion IsFresh keepers
+abbrev pub AllTellEmpty : List KeeperData → Type 0
+AllTellEmpty keepers = AllByRecursion TellsEmpty keepers
 
 -- a bench over a store, with no batch and these reads
 abbrev pub bench_over : List (Option FetchedData) → KeeperData → BenchData

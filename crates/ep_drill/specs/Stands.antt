@@ -46,9 +46,9 @@ pub record NodeStands (f : FrontData) (stripe : ℕ) (key : List ℕ) (node : No
   pub value : ValueStands (marked f stripe) doc node.value
 
 -- under value eviction memory has nothing of a document only where it is deleted and stored, or where there is none
-abbrev pub IsGone : ℕ → Option Doc → Type 0
-IsGone mark None = Unit {0}
-IsGone mark (Some doc) = (doc.seqno ≤ mark) × (doc.deleted ≡ true)
+abbrev pub MayBeGone : ℕ → Option Doc → Type 0
+MayBeGone mark None = Unit {0}
+MayBeGone mark (Some doc) = (doc.seqno ≤ mark) × (doc.deleted ≡ true)
 
 -- what became of a read is what the history says
 abbrev pub OutcomeStands : FrontData → Ticket → List ℕ → Outcome → Type 0
@@ -73,7 +73,7 @@ pub record StripeStands (f : FrontData) (stripe : ℕ) (x : StripeData) : Type 0
   pub there : nat_lt stripe f.config.stripes ≡ true
   pub index : x.index ≡ stripe
   pub nodes : (key : List ℕ) (node : NodeData) → node_at x.nodes key ≡ Some node → NodeStands f stripe key node
-  pub gone : (world_of f).opened ≡ true → (key : List ℕ) → stripe_of key f.config.stripes ≡ stripe → node_at x.nodes key ≡ None → IsGone (marked f stripe) (map.get (world_of f).docs key)
+  pub gone : (world_of f).opened ≡ true → (key : List ℕ) → stripe_of key f.config.stripes ≡ stripe → node_at x.nodes key ≡ None → MayBeGone (marked f stripe) (map.get (world_of f).docs key)
   pub mark : x.mark ≡ marked f stripe
   pub state : x.state ≡ (world_of f).state
   pub opened : x.opened ≡ (world_of f).opened

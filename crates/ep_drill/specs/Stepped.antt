@@ -22,8 +22,8 @@ use Rattle.ep_drill.specs.Calls.{event_of}
 use Rattle.hold_stage.specs.Stays.{KeptBut}
 use Rattle.ep_drill.specs.Callers.{next_of, after_step, tried_of}
 use Rattle.ep_drill.specs.Fetches.{HasWaiting}
-use Rattle.ep_drill.specs.Tries.{ComesTo}
-use Rattle.ep_drill.specs.Core.{Moved, Rested, Interleaves, GoesOn, LacksRoom, NextMayWant}
+use Rattle.ep_drill.specs.Tries.{CallComesTo}
+use Rattle.ep_drill.specs.Core.{Moved, Rested, Interleaves, GoesOn, LacksEventRoom, NextMayWant}
 use Rattle.ep_drill.specs.Works.{TakesAt, CommitsAt, MarksAt, FetchesAt, MergesAt}
 
 -- A caller's next call was tried at a moment of a step, with this answer, and its event is noted where it has one. Nothing else changed.
@@ -37,7 +37,7 @@ pub record WasTried (old new : CoreData) (number now : ℕ) (tried : Tried) : Ty
   pub next : next_of caller ≡ Some call
   pub says : tried ≡ tried_of step
   pub moved : Moved old.config call.0 (event_of number call.1 now caller.prior value step) old.world new.world
-  pub comes : ComesTo old.config (part_in old.world call.0) (part_in new.world call.0) call.1 now caller.prior step
+  pub comes : CallComesTo old.config (part_in old.world call.0) (part_in new.world call.0) call.1 now caller.prior step
   pub kept : KeptBut old.config (touches_call old.config call.1) (part_in old.world call.0) (part_in new.world call.0)
   pub left : new ≡ record old { world = new.world; callers = slice_set old.callers number (after_step step caller) }
 
@@ -134,10 +134,10 @@ abbrev pub TakesMemory : CoreData → StepChoice → Type 0
 TakesMemory core (choices.Warm vb) = ⊥
 TakesMemory core (choices.Front caller now) = TurnTakes core caller now
 TakesMemory core (choices.TakeBatch vb) = ⊥
-TakesMemory core (choices.Commit vb) = BenchIs core vb (λ bench. IsSome bench.batch) × LacksRoom core.world
-TakesMemory core (choices.Mark vb stripe) = (vb < core.config.vbuckets) × (stripe < core.config.stripes) × LacksRoom core.world
+TakesMemory core (choices.Commit vb) = BenchIs core vb (λ bench. IsSome bench.batch) × LacksEventRoom core.world
+TakesMemory core (choices.Mark vb stripe) = (vb < core.config.vbuckets) × (stripe < core.config.stripes) × LacksEventRoom core.world
 TakesMemory core (choices.Read vb stripe) = BenchIs core vb (λ bench. bench.desk.doubt ≡ None) × HasWaiting (part_in core.world vb (Stripe stripe))
-TakesMemory core (choices.Merge vb stripe) = (stripe < core.config.stripes) × BenchIs core vb (λ bench. slice_get bench.reads stripe ≡ Some None → ⊥) × LacksRoom core.world
+TakesMemory core (choices.Merge vb stripe) = (stripe < core.config.stripes) × BenchIs core vb (λ bench. slice_get bench.reads stripe ≡ Some None → ⊥) × LacksEventRoom core.world
 TakesMemory core (choices.Page vb stripe) = ⊥
 TakesMemory core (choices.Expire vb stripe now) = ⊥
 

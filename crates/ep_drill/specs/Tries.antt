@@ -35,19 +35,19 @@ pub record ComesToSet (stripes fit : ℕ) (old new : PartName → Option Part) (
   pub queues : new Queue ≡ Some (parts.Queue (write_step stripe queue fit prior key value flags expiration cas now).queue)
 
 -- each of the calls that there are so far
-abbrev pub ComesTo : Config → (PartName → Option Part) → (PartName → Option Part) → CallData → ℕ → Option Ticket → Step → Type 0
-ComesTo config old new (calls.Get key) now prior step = ComesToGet config.stripes old new prior key now step
-ComesTo config old new (calls.Store SetKind key value flags expiration cas) now prior step = ComesToSet config.stripes (fit_of config) old new prior key value flags expiration cas now step
-ComesTo config old new (calls.Store AddKind key value flags expiration cas) now prior step = ⊥
-ComesTo config old new (calls.Store ReplaceKind key value flags expiration cas) now prior step = ⊥
-ComesTo config old new (calls.Join front key value cas) now prior step = ⊥
-ComesTo config old new (calls.Count down key delta initial expiration cas) now prior step = ⊥
-ComesTo config old new (calls.Delete key cas) now prior step = ⊥
-ComesTo config old new (calls.Touch key expiration fetch) now prior step = ⊥
-ComesTo config old new (calls.Observe uuid) now prior step = ⊥
-ComesTo config old new calls.Failovers now prior step = ⊥
-ComesTo config old new (calls.SetState state) now prior step = ⊥
-ComesTo config old new calls.GetState now prior step = ⊥
+abbrev pub CallComesTo : Config → (PartName → Option Part) → (PartName → Option Part) → CallData → ℕ → Option Ticket → Step → Type 0
+CallComesTo config old new (calls.Get key) now prior step = ComesToGet config.stripes old new prior key now step
+CallComesTo config old new (calls.Store SetKind key value flags expiration cas) now prior step = ComesToSet config.stripes (fit_of config) old new prior key value flags expiration cas now step
+CallComesTo config old new (calls.Store AddKind key value flags expiration cas) now prior step = ⊥
+CallComesTo config old new (calls.Store ReplaceKind key value flags expiration cas) now prior step = ⊥
+CallComesTo config old new (calls.Join front key value cas) now prior step = ⊥
+CallComesTo config old new (calls.Count down key delta initial expiration cas) now prior step = ⊥
+CallComesTo config old new (calls.Delete key cas) now prior step = ⊥
+CallComesTo config old new (calls.Touch key expiration fetch) now prior step = ⊥
+CallComesTo config old new (calls.Observe uuid) now prior step = ⊥
+CallComesTo config old new calls.Failovers now prior step = ⊥
+CallComesTo config old new (calls.SetState state) now prior step = ⊥
+CallComesTo config old new calls.GetState now prior step = ⊥
 
 -- A Get asks for a read of its own, at a place that its stripe adds for it.
 pub record AddsPlace (stripes : ℕ) (old : PartName → Option Part) (prior : Option Ticket) (key : List ℕ) (now : ℕ) : Type 0 where

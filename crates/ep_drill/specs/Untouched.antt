@@ -22,7 +22,7 @@ use Rattle.flat_parts.specs.declared.data.PlaceData.{PlaceData}
 use Rattle.flat_parts.specs.declared.data.StripeData.{StripeData}
 use Rattle.flat_parts.specs.declared.data.QueueData.{QueueData}
 use Rattle.hold_stage.specs.Numbers.{all_numbered}
-use Rattle.ep_drill.specs.Stands.{ValueStands, IsGone, OutcomeStands, ticket_of, PlaceStands, StripeStands, QueueStands}
+use Rattle.ep_drill.specs.Stands.{ValueStands, MayBeGone, OutcomeStands, ticket_of, PlaceStands, StripeStands, QueueStands}
 
 outcome_keeps : (f : FrontData) (stripe number : ℕ) (key : List ℕ) (outcome : Outcome) (event : EventData) → touches f event (Stripe stripe) ≡ false → get (world_of (with_event f event)).docs key ≡ get (world_of f).docs key
     → OutcomeStands f (ticket_of stripe number) key outcome → OutcomeStands (with_event f event) (ticket_of stripe number) key outcome
@@ -59,8 +59,8 @@ stripe_keeps stripe f event x legal may apart s =
           let n = s.nodes key node is in
           record { doc = n.doc; found = same.docs key n.here ∙ n.found; here = n.here; meta = n.meta; value = value_stands_at (marked f stripe) (marked (with_event f event) stripe) n.doc node.value mark n.value };
       gone = λ opened key here none-there.
-          subst (λ (o : Option Doc). IsGone (marked (with_event f event) stripe) o) (sym (same.docs key here))
-          (subst (λ m. IsGone m (get (world_of f).docs key)) (sym mark) (s.gone (sym same.opened ∙ opened) key here none-there));
+          subst (λ (o : Option Doc). MayBeGone (marked (with_event f event) stripe) o) (sym (same.docs key here))
+          (subst (λ m. MayBeGone m (get (world_of f).docs key)) (sym mark) (s.gone (sym same.opened ∙ opened) key here none-there));
       mark = s.mark ∙ sym mark;
       state = s.state ∙ sym same.state;
       opened = s.opened ∙ sym same.opened;

@@ -33,11 +33,11 @@ use Rattle.ep_drill.specs.Parts.{Becomes}
 use Rattle.ep_drill.specs.Core.{Moved, count_of}
 
 -- all is as it was
-abbrev pub IsLeft : WorldData Part → WorldData Part → BenchData → BenchData → Type 0
-IsLeft old new bench after = (new ≡ old) × (after ≡ bench)
+abbrev pub AllIsLeft : WorldData Part → WorldData Part → BenchData → BenchData → Type 0
+AllIsLeft old new bench after = (new ≡ old) × (after ≡ bench)
 
 -- A batch was taken that goes beyond what is stored, in place of one that wasn't committed, or all is stored and there is none.
-pub record WasTaken (config : Config) (vb number : ℕ) (old new : WorldData Part) (bench after : BenchData) : Type 0 where
+pub record TookBatch (config : Config) (vb number : ℕ) (old new : WorldData Part) (bench after : BenchData) : Type 0 where
   pub sure : bench.desk.doubt ≡ None
   pub batch : Option BatchData
   pub left : after ≡ record bench { batch = batch }
@@ -59,9 +59,9 @@ pub record WasDropped (config : Config) (vb : ℕ) (old new : WorldData Part) (b
 abbrev pub TakesAt : Config → ℕ → Answer → WorldData Part → WorldData Part → BenchData → BenchData → Type 0
 TakesAt config vb answers.Nothing old new bench after = ⊥
 TakesAt config vb (answers.Tried tried) old new bench after = ⊥
-TakesAt config vb (answers.Took number) old new bench after = WasTaken config vb number old new bench after
+TakesAt config vb (answers.Took number) old new bench after = TookBatch config vb number old new bench after
 TakesAt config vb (answers.Flushed (flushes.Stored number)) old new bench after = ⊥
-TakesAt config vb (answers.Flushed flushes.Failed) old new bench after = IsLeft old new bench after × (bench.desk.doubt ≡ None → ⊥)
+TakesAt config vb (answers.Flushed flushes.Failed) old new bench after = AllIsLeft old new bench after × (bench.desk.doubt ≡ None → ⊥)
 TakesAt config vb (answers.Flushed flushes.NoMemory) old new bench after = WasDropped config vb old new bench after
 TakesAt config vb (answers.Marked marking) old new bench after = ⊥
 TakesAt config vb (answers.Read waited) old new bench after = ⊥
@@ -87,7 +87,7 @@ pub record WasFlushed (config : Config) (vb : ℕ) (flushed : Flushed) (old new 
 
 -- nothing is committed exactly where there is no batch
 abbrev pub CommitsAt : Config → ℕ → Answer → WorldData Part → WorldData Part → BenchData → BenchData → Type 0
-CommitsAt config vb answers.Nothing old new bench after = IsLeft old new bench after × (bench.batch ≡ None)
+CommitsAt config vb answers.Nothing old new bench after = AllIsLeft old new bench after × (bench.batch ≡ None)
 CommitsAt config vb (answers.Tried tried) old new bench after = ⊥
 CommitsAt config vb (answers.Took number) old new bench after = ⊥
 CommitsAt config vb (answers.Flushed flushed) old new bench after = WasFlushed config vb flushed old new bench after
@@ -133,7 +133,7 @@ pub record WasFetched (config : Config) (vb stripe : ℕ) (waited : Bool) (old n
 
 -- nothing is read where it is in doubt what the store holds
 abbrev pub FetchesAt : Config → ℕ → ℕ → Answer → WorldData Part → WorldData Part → BenchData → BenchData → Type 0
-FetchesAt config vb stripe answers.Nothing old new bench after = IsLeft old new bench after × (bench.desk.doubt ≡ None → ⊥)
+FetchesAt config vb stripe answers.Nothing old new bench after = AllIsLeft old new bench after × (bench.desk.doubt ≡ None → ⊥)
 FetchesAt config vb stripe (answers.Tried tried) old new bench after = ⊥
 FetchesAt config vb stripe (answers.Took number) old new bench after = ⊥
 FetchesAt config vb stripe (answers.Flushed flushed) old new bench after = ⊥
@@ -169,7 +169,7 @@ pub record WasMerged (config : Config) (vb stripe : ℕ) (merging : Merging) (ol
 
 -- nothing is merged exactly where the stripe has no read
 abbrev pub MergesAt : Config → ℕ → ℕ → Answer → WorldData Part → WorldData Part → BenchData → BenchData → Type 0
-MergesAt config vb stripe answers.Nothing old new bench after = IsLeft old new bench after × (slice_get bench.reads stripe ≡ Some None)
+MergesAt config vb stripe answers.Nothing old new bench after = AllIsLeft old new bench after × (slice_get bench.reads stripe ≡ Some None)
 MergesAt config vb stripe (answers.Tried tried) old new bench after = ⊥
 MergesAt config vb stripe (answers.Took number) old new bench after = ⊥
 MergesAt config vb stripe (answers.Flushed flushed) old new bench after = ⊥

@@ -5,7 +5,7 @@ ghost use Rattle.ep_model.specs.Limits.{max_value};
 ghost use Rattle.vb_world.specs.World.{part_in};
 ghost use Rattle.ep_drill.specs.Callers.{caller_data};
 ghost use Rattle.ep_drill.specs.Fetches.{HasWaiting};
-ghost use Rattle.ep_drill.specs.Core.{core_data, Interleaves, GoesOn, LacksRoom};
+ghost use Rattle.ep_drill.specs.Core.{core_data, Interleaves, GoesOn, LacksEventRoom};
 ghost use Rattle.ep_drill.specs.Works.{TakesAt, CommitsAt, MarksAt, FetchesAt, MergesAt};
 ghost use Rattle.ep_drill.specs.Stepped.{BenchIs, IsBenched, IsFronted, IsNoBucket, IsNowhere, IsPagedAt, Ran, RanSome, Spares, Stepped, TakesMemory, TurnTakes};
 
@@ -99,7 +99,7 @@ impl<K: Keeper> Core<K> {
         ensures committed { IfOk result (IsBenched self.old self.new vb (IsNoBucket self.old vb)
             (CommitsAt self.old.config vb)) }
         ensures err { OnErr result (Spares self.old self.new × BenchIs self.old vb
-            (λ bench. IsSome bench.batch) × LacksRoom self.old.world) }
+            (λ bench. IsSome bench.batch) × LacksEventRoom self.old.world) }
     {
         let Some(bench) = self.benches.get_mut(usize::from(vb)) else {
             return Ok(Answer::Nothing);
@@ -114,7 +114,7 @@ impl<K: Keeper> Core<K> {
         ensures marked { IfOk result (IsBenched self.old self.new vb (IsNowhere self.old vb stripe)
             (MarksAt self.old.config vb stripe)) }
         ensures err { OnErr result (Spares self.old self.new × (vb < self.old.config.vbuckets)
-            × (stripe < self.old.config.stripes) × LacksRoom self.old.world) }
+            × (stripe < self.old.config.stripes) × LacksEventRoom self.old.world) }
     {
         let Some(bench) = self.benches.get(usize::from(vb)) else {
             return Ok(Answer::Nothing);
@@ -172,7 +172,7 @@ impl<K: Keeper> Core<K> {
             (MergesAt self.old.config vb stripe)) }
         ensures err { OnErr result (Spares self.old self.new × (stripe < self.old.config.stripes)
             × BenchIs self.old vb (λ bench. slice_get bench.reads stripe ≡ Some None → ⊥)
-            × LacksRoom self.old.world) }
+            × LacksEventRoom self.old.world) }
     {
         let Some(bench) = self.benches.get_mut(usize::from(vb)) else {
             return Ok(Answer::Nothing);

@@ -16,7 +16,7 @@ ghost use Rattle.ep_drill.specs.Calls.{AreHome};
 ghost use Rattle.hold_stage.specs.Went.{HasRoom};
 ghost use Rattle.ep_drill.specs.Fetches.{found_data, fetched_data, settles, IsOldest, IsRoom, IsFoundIn, IsBack, IsRead, IsMerged, Reads, WantsRead, ReadsOldest, HasWaiting};
 
-pub use crate::fetched::{Fetched, ReadFound, Row};
+pub use crate::fetched::{Fetched, FoundRow, ReadFound};
 use crate::hold::{take_desk, take_stripe};
 use crate::part::Part;
 use ep_model::limits::MAX_VALUE;
@@ -60,7 +60,7 @@ fn copy_oldest(
 }
 
 // A document that was read, with its value in the room that was taken for it. What is left of that goes back.
-fn row_in(mut room: Vec<u8>, meta: Meta, value: &[u8]) -> Row
+fn row_in(mut room: Vec<u8>, meta: Meta, value: &[u8]) -> FoundRow
     requires room { IsRoom room }
     requires measured { meta.len ≡ length value.now }
     requires fits { IsValue value.now }
@@ -71,7 +71,7 @@ fn row_in(mut room: Vec<u8>, meta: Meta, value: &[u8]) -> Row
         unreachable!()
     };
     room.shrink_to_fit();
-    Row { meta, value: room }
+    FoundRow { meta, value: room }
 }
 
 // What the store holds of a key.
@@ -146,7 +146,7 @@ pub(crate) fn fetch_read<S: Stage<Part = Part>, K: Keeper>(
 }
 
 // Puts a value back that was read, where the key's node still waits for it: whether it is in memory then.
-fn put_back(part: &mut FlatStripe, key: &[u8], row: Row) -> bool
+fn put_back(part: &mut FlatStripe, key: &[u8], row: FoundRow) -> bool
     ensures { IsBack part.old key.now row.meta row.value.items part.new result }
 {
     match part.find(key) {

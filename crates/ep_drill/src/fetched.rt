@@ -6,7 +6,7 @@ use ep_model::{Meta, Ticket};
 
 /// A document that the store has: its metadata and its value.
 #[derive(Drop)]
-pub struct Row {
+pub struct FoundRow {
     pub meta: Meta,
     pub value: Vec<u8>,
     ghost measured: { meta.len ≡ length value.items },
@@ -16,7 +16,7 @@ pub struct Row {
 /// What a read of the store found.
 #[derive(Drop)]
 pub enum ReadFound {
-    Row(Row),
+    Row(FoundRow),
     Absent,
     /// The store failed, the desk's count of read faults then being this one.
     Failed(u64),

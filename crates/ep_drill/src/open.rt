@@ -12,7 +12,7 @@ ghost use Rattle.vb_world.specs.World.{part_in, StandBare, Sound};
 ghost use Rattle.ep_drill.specs.Parts.{part_stands};
 ghost use Rattle.ep_drill.specs.Calls.{AreHome};
 ghost use Rattle.hold_stage.specs.Went.{HasRoom};
-ghost use Rattle.ep_drill.specs.Opens.{bare_stripes, bare_list, is_below, IsNew, Added};
+ghost use Rattle.ep_drill.specs.Opens.{bare_stripes, bare_list, is_below, HasJustOpened, Added};
 
 use crate::hold::{take_desk, take_queue, take_stripe};
 use crate::part::{DeskPart, Part};
@@ -62,7 +62,7 @@ fn take_all<S: Stage<Part = Part>>(stage: &mut S, stripes: u16)
 // Gives all stripes of a vBucket that has just opened.
 fn give_stripes<S: Stage<Part = Part>>(alloc: Global, stage: &mut S, stripes: u16)
     requires stripes { stripes ≡ (S.front stage.old).config.stripes }
-    requires opened { IsNew (S.front stage.old) }
+    requires opened { HasJustOpened (S.front stage.old) }
     requires telling { S.is_telling stage.old ≡ true }
     requires held { (p : PartName) → S.holds stage.old p ≡ there (S.front stage.old).config p }
     ensures stays { Stays S.lent S.fixed S.number S.is_desk S.is_telling stage.old stage.new }
@@ -81,7 +81,7 @@ fn give_stripes<S: Stage<Part = Part>>(alloc: Global, stage: &mut S, stripes: u1
 // Gives all parts of a vBucket that has just opened.
 fn give_all<S: Stage<Part = Part>>(alloc: Global, stage: &mut S, stripes: u16)
     requires stripes { stripes ≡ (S.front stage.old).config.stripes }
-    requires opened { IsNew (S.front stage.old) }
+    requires opened { HasJustOpened (S.front stage.old) }
     requires telling { S.is_telling stage.old ≡ true }
     requires held { (p : PartName) → S.holds stage.old p ≡ there (S.front stage.old).config p }
     ensures stays { Stays S.lent S.fixed S.number S.is_desk S.is_telling stage.old stage.new }

@@ -8,7 +8,7 @@ ghost use Rattle.vb_world.specs.World.{Sound};
 ghost use Rattle.ep_drill.specs.Parts.{part_stands};
 ghost use Rattle.ep_drill.specs.Callers.{owned_data, loaded_data, caller_data};
 ghost use Rattle.ep_drill.specs.Core.{bench_data, Ready, Interleaves};
-ghost use Rattle.ep_drill.specs.Opens.{copies, idle, reads_in, bench_over, AreFresh, FirstOpened, IsRefusal, loaded_at, IsServed, IsLoaded};
+ghost use Rattle.ep_drill.specs.Opens.{copies, idle, reads_in, bench_over, AllTellEmpty, FirstOpened, IsRefusal, loaded_at, CanBeLoaded, IsLoaded};
 
 use crate::bench::Bench;
 use crate::engine::Core;
@@ -64,7 +64,7 @@ fn all_reads(alloc: Global, config: &Config) -> Result<Vec<Vec<Option<Fetched>>>
 
 // A call of its own with the same key and value.
 fn copy_call(alloc: Global, call: &Call) -> Result<OwnedCall, NoMemory>
-    requires served { IsServed (call_data call.now) }
+    requires served { CanBeLoaded (call_data call.now) }
     requires within { IsWithin (call_data call.now) }
     ensures { IfOk result (λ owned. owned_data owned ≡ call_data call.now) }
 {
@@ -136,7 +136,7 @@ fn benches_of<K: Keeper>(
     keepers: Vec<K>,
     reads: Vec<Vec<Option<Fetched>>>,
 ) -> Result<Vec<Bench<K>>, Vec<K>>
-    requires { AreFresh (map K.seen keepers.items) }
+    requires { AllTellEmpty (map K.seen keepers.items) }
     ensures ok { (stripes : ℕ)
         → map reads_in reads.items ≡ copies (length keepers.items) (copies stripes None)
         → IfOk result (λ benches. map bench_data benches.items
@@ -167,7 +167,7 @@ impl<K: Keeper> Core<K> {
     ) -> Result<Core<K>, (OpenFault, Vec<K>)>
         requires eviction { config.now.eviction ≡ ValueEviction }
         requires count { length keepers.items ≡ config.now.vbuckets }
-        requires fresh { AreFresh (map K.seen keepers.items) }
+        requires fresh { AllTellEmpty (map K.seen keepers.items) }
         ensures interleaves { IfOk result (λ core. Interleaves core) }
         ensures layout { IfOk result (λ core. core.config ≡ config.now) }
         ensures opened { IfOk result (λ core. FirstOpened config.now config.now.vbuckets
@@ -209,7 +209,7 @@ impl<K: Keeper> Core<K> {
     pub fn load(&mut self, alloc: Global, caller: u16, vb: u16, call: &Call) -> Result<(), NoMemory>
         requires caller { caller < length self.old.callers }
         requires vb { vb < self.old.config.vbuckets }
-        requires served { IsServed (call_data call.now) }
+        requires served { CanBeLoaded (call_data call.now) }
         requires within { IsWithin (call_data call.now) }
         ensures interleaves { Interleaves self.new }
         ensures same { (length self.new.callers ≡ length self.old.callers)

@@ -5,7 +5,7 @@ ghost use Rattle.ep_model.specs.Limits.{max_value};
 ghost use Rattle.vb_world.specs.World.{front_in, part_in, Sound};
 ghost use Rattle.ep_drill.specs.Parts.{part_stands};
 ghost use Rattle.ep_drill.specs.Fetches.{HasWaiting};
-ghost use Rattle.ep_drill.specs.Core.{bench_data, BenchStands, LacksRoom, Ready, Moved, Rested, Worked};
+ghost use Rattle.ep_drill.specs.Core.{bench_data, BenchStands, LacksEventRoom, Ready, Moved, Rested, Worked};
 ghost use Rattle.ep_drill.specs.Works.{TakesAt, CommitsAt, FetchesAt, MergesAt};
 
 use crate::bench::Bench;
@@ -75,7 +75,7 @@ pub(crate) fn commit_at<K: Keeper>(
         (bench_data bench.old) (bench_data bench.new)) }
     ensures err { OnErr result (Rested config.now world.old world.new
         × (bench_data bench.new ≡ bench_data bench.old) × IsSome (bench_data bench.old).batch
-        × LacksRoom world.old) }
+        × LacksEventRoom world.old) }
     ensures worked { Worked config.now vb world.old world.new }
     ensures bench { BenchStands (front_in world.new vb) (bench_data bench.new) }
     ensures sound { Sound part_stands world.new }
@@ -188,7 +188,8 @@ pub(crate) fn merge_at<K: Keeper>(
         (bench_data bench.old) (bench_data bench.new)) }
     ensures err { OnErr result (Rested config.now world.old world.new
         × (bench_data bench.new ≡ bench_data bench.old)
-        × (slice_get (bench_data bench.old).reads stripe ≡ Some None → ⊥) × LacksRoom world.old) }
+        × (slice_get (bench_data bench.old).reads stripe ≡ Some None → ⊥)
+        × LacksEventRoom world.old) }
     ensures worked { Worked config.now vb world.old world.new }
     ensures bench { BenchStands (front_in world.new vb) (bench_data bench.new) }
     ensures sound { Sound part_stands world.new }

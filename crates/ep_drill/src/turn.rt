@@ -5,7 +5,7 @@ ghost use Rattle.ep_model.specs.Limits.{IsMoment, max_value};
 ghost use Rattle.vb_world.specs.World.{front_in, Sound};
 ghost use Rattle.ep_drill.specs.Parts.{part_stands};
 ghost use Rattle.ep_drill.specs.Callers.{CallerStands, caller_data, next_of, after_step, tried_of};
-ghost use Rattle.ep_drill.specs.Core.{IsOn, NextMayWant, Ready, Rested, Turned};
+ghost use Rattle.ep_drill.specs.Core.{IsOn, NextMayWant, Ready, Rested, CallerTurned};
 ghost use Rattle.ep_drill.specs.Stepped.{answer_of};
 
 use crate::choice::{Answer, Tried};
@@ -71,7 +71,7 @@ pub(crate) fn try_next(
     requires loaded { AllByRecursion (IsOn config.now) (caller_data caller.old).calls }
     requires moment { IsMoment now }
     requires value { value.old.spare + length value.old.bytes ≡ max_value }
-    ensures ok { IfOk result (Turned config.now number now world.old world.new
+    ensures ok { IfOk result (CallerTurned config.now number now world.old world.new
         (caller_data caller.old) (caller_data caller.new) value.new.bytes) }
     ensures err { OnErr result (Rested config.now world.old world.new
         × (caller_data caller.new ≡ caller_data caller.old)

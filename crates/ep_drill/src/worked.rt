@@ -14,8 +14,8 @@ ghost use Rattle.ep_drill.specs.Calls.{event_of};
 ghost use Rattle.hold_stage.specs.Stays.{KeptBut};
 ghost use Rattle.ep_drill.specs.StoreSide.{IsPaged};
 ghost use Rattle.ep_drill.specs.Callers.{loaded_data, owned_data};
-ghost use Rattle.ep_drill.specs.Core.{bench_data, BenchStands, LacksCallRoom, LacksRoom, MayWant, Ready, Moved, Rested, Worked};
-ghost use Rattle.ep_drill.specs.Tries.{AddsPlace, ComesToGet, ComesToSet, ComesTo, PutsDocument};
+ghost use Rattle.ep_drill.specs.Core.{bench_data, BenchStands, LacksCallRoom, LacksEventRoom, MayWant, Ready, Moved, Rested, Worked};
+ghost use Rattle.ep_drill.specs.Tries.{AddsPlace, ComesToGet, ComesToSet, CallComesTo, PutsDocument};
 ghost use Rattle.ep_drill.specs.Works.{MarksAt};
 
 use crate::bench::Bench;
@@ -154,7 +154,7 @@ pub(crate) fn try_loaded(
     ensures ok { IfOk result (λ step. Moved config.now loaded.now.vb
         (event_of number (owned_data loaded.now.call) now prior value.new.bytes step) world.old
         world.new) }
-    ensures comes { IfOk result (ComesTo config.now (part_in world.old loaded.now.vb)
+    ensures comes { IfOk result (CallComesTo config.now (part_in world.old loaded.now.vb)
         (part_in world.new loaded.now.vb) (owned_data loaded.now.call) now prior) }
     ensures kept { KeptBut config.now (touches_call config.now (owned_data loaded.now.call))
         (part_in world.old loaded.now.vb) (part_in world.new loaded.now.vb) }
@@ -185,7 +185,7 @@ pub(crate) fn mark_at<K: Keeper>(
     requires bench { BenchStands (front_in world.old vb) (bench_data bench.now) }
     ensures ok { IfOk result (λ answer. MarksAt config.now vb stripe answer world.old world.new
         (bench_data bench.now) (bench_data bench.now)) }
-    ensures err { OnErr result (Rested config.now world.old world.new × LacksRoom world.old) }
+    ensures err { OnErr result (Rested config.now world.old world.new × LacksEventRoom world.old) }
     ensures worked { Worked config.now vb world.old world.new }
     ensures bench { BenchStands (front_in world.new vb) (bench_data bench.now) }
     ensures sound { Sound part_stands world.new }

@@ -12,7 +12,7 @@ use Rattle.ep_drill.specs.declared.part.Part.{Part}
 use Rattle.ep_drill.specs.declared.fetched.Fetched.{Fetched}
 use Rattle.ep_drill.specs.Parts.{part_stands}
 use Rattle.ep_drill.specs.Fetches.{fetched_data}
-use Rattle.ep_drill.specs.Core.{bench_data, BenchStands, LacksRoom, Worked}
+use Rattle.ep_drill.specs.Core.{bench_data, BenchStands, LacksEventRoom, Worked}
 use Rattle.ep_drill.specs.Works.{WasMerged}
 use Rattle.ep_drill.proofs.WorldLemmas.{room_rests}
 use Rattle.ep_drill.proofs.BenchedLemmas.{no_read_at_stripe, put_again, is_there, was_merged}
@@ -86,7 +86,7 @@ returns-then-is_err-clause-err g c =
       room_rests c.args.config.now c.args.world.now c.reserve.new.self c.reserve.new.self.event_room c.reserve.new.self.byte_room c.requires.ready c.reserve.ensures.same,
       ap (λ (l : List (Option FetchedData)). record (bench_data c.args.bench.now) { reads = l }) (put_again (option_map fetched_data) c.args.bench.now.reads.items (slice_set (slice_set c.args.bench.now.reads.items c.from.result c.replace.new.dest) c.from-then-is_err.result (Some c.in-Some.fetched)) c.args.stripe c.replace.new.dest (Some c.in-Some.fetched) same read),
       λ none. is_there c.args.stripe (bench_data c.args.bench.now).reads (fetched_data c.in-Some.fetched) read none,
-      (let lacks : LacksRoom c.args.world.now = search rules in lacks),
+      (let lacks : LacksEventRoom c.args.world.now = search rules in lacks),
     )
 
 -- src/stored.rt
