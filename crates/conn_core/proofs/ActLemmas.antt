@@ -1,5 +1,5 @@
 -- What a connection leaves to others it doesn't answer.
-use Rattle.std.proofs.Common.{◌≡◌, ℕ, ◌<◌, Bool, true, false, nat_lt, if◌then◌else◌, List, [], Result, Ok, Err, refl, sym, ap, ◌∙◌, rules, arith}
+use Rattle.std.proofs.Common.{◌≡◌, ℕ, ◌<◌, Bool, true, false, nat_lt, if◌then◌else◌, List, [], Result, Ok, Err, refl, sym, ap, ◌∙◌, rules}
 use Rattle.ep_model.specs.declared.data.CallData.{CallData}
 use Rattle.ep_model.specs.Statuses.{not_my_vbucket}
 use Rattle.mcbp_frame.specs.declared.frame.FrameData.{FrameData}
@@ -8,8 +8,7 @@ use Rattle.mcbp_ops.specs.declared.op.OpData.{OpData}
 use Rattle.mcbp_ops.specs.declared.op.OpData.TheVariants as ops
 use Rattle.mcbp_ops.specs.Ops.{op_of}
 use Rattle.mcbp_ops.specs.Text.{status_text, value_text}
-use Rattle.conn_core.specs.declared.act.ActData.{ActData}
-use Rattle.conn_core.specs.declared.act.ActData.TheVariants.{Answered, Quit, Engine, Stat}
+use Rattle.conn_core.specs.declared.act.ActData.TheVariants.{Answered, Engine, Stat}
 use Rattle.conn_core.specs.declared.hello.Features.{Features}
 use Rattle.conn_core.specs.Hello.{asks_seqno, granted}
 use Rattle.conn_core.specs.Acts.{act_of, act_of_op, own_text, own_text_of_op, features_after, features_after_op}

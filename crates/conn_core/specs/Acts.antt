@@ -1,5 +1,5 @@
 -- What a connection does with a frame by itself, and what it leaves to do.
-use Rattle.std.specs.Prelude.{ℕ, Bool, true, false, nat_lt, if◌then◌else◌, ◌+◌, ◌≤◌, List, [], length, Result, Ok, Err, codes}
+use Rattle.std.specs.Prelude.{ℕ, nat_lt, if◌then◌else◌, ◌+◌, ◌≤◌, List, [], length, Result, Ok, Err, codes}
 use Rattle.ep_model.specs.History.{call_data}
 use Rattle.ep_model.specs.Limits.{IsWithin}
 use Rattle.ep_model.specs.Statuses.{success, not_my_vbucket}

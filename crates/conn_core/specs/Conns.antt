@@ -1,5 +1,5 @@
 -- A connection that has served nothing.
-use Rattle.std.specs.Prelude.{◌≡◌, ℕ, ◌+◌, [], false}
+use Rattle.std.specs.Prelude.{◌≡◌, ℕ, [], false}
 use Rattle.conn_core.specs.declared.conn.Conn.{Conn}
 
 pub record IsNew (c : Conn) : Type 0 where

@@ -1,5 +1,5 @@
 -- What a client asks for by Hello.
-use Rattle.std.specs.Prelude.{ℕ, Bool, true, false, ◌==◌, ◌&&◌, ◌||◌, if◌then◌else◌, List, [], ◌∷◌}
+use Rattle.std.specs.Prelude.{ℕ, Bool, false, ◌==◌, ◌&&◌, ◌||◌, if◌then◌else◌, List, [], ◌∷◌}
 use Rattle.conn_core.specs.declared.hello.Features.{Features}
 
 -- whether feature 0004 stands among codes of two bytes each
