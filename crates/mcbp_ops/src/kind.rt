@@ -1,5 +1,5 @@
 // The table of opcodes.
-ghost use Rattle.std.specs.Prelude.{◌≡◌, ℕ, IfOk};
+ghost use Rattle.std.specs.Prelude.{◌≡◌, ℕ, false, IfOk, IfErr};
 ghost use Rattle.mcbp_ops.specs.Table.{kind_of, kind_result};
 ghost use Rattle.mcbp_ops.specs.Text.{is_silent, hides};
 
@@ -104,6 +104,7 @@ pub fn form_of(opcode: u8) -> Result<Form, Bad>
     ensures kind { kind_result result ≡ kind_of opcode }
     ensures silence { IfOk result (λ form. (status : ℕ) → is_silent opcode status
         ≡ hides form.silence status) }
+    ensures refused { IfErr result (λ _. (status : ℕ) → is_silent opcode status ≡ false) }
 {
     match opcode {
         GET => Ok(plain(Kind::Get { keyed: false })),

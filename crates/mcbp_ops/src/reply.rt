@@ -4,10 +4,9 @@ ghost use Rattle.mcbp_frame.specs.Frames.{frame_data};
 ghost use Rattle.mcbp_ops.specs.Text.{is_silent, answer_text, mutation_extras, success_text, reply_text};
 
 use crate::kind::{Kind, form_of};
-use crate::opcodes::*;
 use crate::parts::key_of;
 use crate::text::{put, stamp_of};
-use ep_model::status::{KEY_NOT_FOUND, SUCCESS};
+use ep_model::status::SUCCESS;
 use ep_model::{Out, Reply};
 use mcbp_frame::Frame;
 
@@ -17,18 +16,9 @@ use mcbp_frame::Frame;
 pub fn is_silent(opcode: u8, status: u16) -> bool
     ensures { result ≡ is_silent opcode status }
 {
-    match opcode {
-        GET_QUIETLY | GET_KEY_QUIETLY | GAT_QUIETLY => status == KEY_NOT_FOUND,
-        SET_QUIETLY
-        | ADD_QUIETLY
-        | REPLACE_QUIETLY
-        | DELETE_QUIETLY
-        | INCREMENT_QUIETLY
-        | DECREMENT_QUIETLY
-        | APPEND_QUIETLY
-        | PREPEND_QUIETLY => status == SUCCESS,
-        QUIT_QUIETLY => true,
-        _ => false,
+    match form_of(opcode) {
+        Ok(form) => form.silence.hides(status),
+        Err(_) => false,
     }
 }
 
