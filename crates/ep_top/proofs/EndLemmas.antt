@@ -22,7 +22,7 @@ use Rattle.conn_core.specs.Exchange.{Exchange}
 use Rattle.ep_top.specs.Exchange.{session_event, texts_of}
 use Rattle.ep_top.specs.Responder.{session_config, IsLegalHistory}
 use Rattle.ep_top.specs.Outside.{Outside, IsReadNoMore}
-use Rattle.ep_top.specs.Stand.{most_pending, Stand, LastFails, bytes_of, Advances, Writes, BeginsWithFrame, is_quit_end}
+use Rattle.ep_top.specs.Stand.{most_pending, Stand, LastFails, bytes_of, Advances, WritesWaiting, BeginsWithFrame, is_quit_end}
 use Rattle.ep_top.specs.Session.{HasEnded, is_cut, EndIsDue, IsNoted, EndsUnopened, IsSession, begin, no_features, ReadsInTurn, Stops, Written, Lost, Broken, Finishes}
 use Rattle.ep_top.proofs.StandLemmas.{serves_then, serves_then-served, serves_then-written, serves_writes, serves_writes-served, serves_writes-written, fails_here, appends_nothing, rose_from}
 use Rattle.ep_top.proofs.SessionLemmas.{takes_nothing}
@@ -223,7 +223,7 @@ session_written : (before mid now : Outside) (end final : End) (responder : Resp
     → IsSession before now final responder.history
 session_written before mid now end final responder s w left earlier ended read moment =
     let here : Stand = record { rest = s.rest; history = responder.history; pending = s.pending; held = mid.held; moment = s.moment; features = responder.conn.features; quit = is_quit_end end } in
-    let pending = subst (λ (l : List ℕ). Writes l [] mid.held now.held) (sym (s.kept w.able)) w.writes in
+    let pending = subst (λ (l : List ℕ). WritesWaiting l [] mid.held now.held) (sym (s.kept w.able)) w.writes in
     subst (λ (e : End). IsSession before now e responder.history) (sym w.same)
     (session_of before now end responder.history s.taken s.rest [] s.moment responder.conn.features (is_quit_end end) s.extra
     (subst (λ (o : Option (List ℕ)). TakesBytes before.left o s.taken) (sym left) s.takes)
@@ -256,7 +256,7 @@ session_lost : (before mid now : Outside) (end final : End) (responder : Respond
     → IsSession before now final responder.history
 session_lost before mid now end final responder s w left earlier read moment =
     let here : Stand = record { rest = s.rest; history = responder.history; pending = s.pending; held = mid.held; moment = s.moment; features = responder.conn.features; quit = is_quit_end end } in
-    let pending = subst (λ (l : List ℕ). Writes l w.lost mid.held now.held) (sym (s.kept w.able)) w.writes in
+    let pending = subst (λ (l : List ℕ). WritesWaiting l w.lost mid.held now.held) (sym (s.kept w.able)) w.writes in
     subst (λ (e : End). IsSession before now e responder.history) (sym w.fault)
     (session_of before now ends.WriteFault responder.history s.taken s.rest w.lost s.moment responder.conn.features (is_quit_end end) s.extra
     (subst (λ (o : Option (List ℕ)). TakesBytes before.left o s.taken) (sym left) s.takes)

@@ -22,7 +22,7 @@ use Rattle.ep_top.specs.declared.responder.Responder.{Responder}
 use Rattle.conn_core.specs.Exchange.{Exchange, features_of, is_quit, frame_of, AreMoments}
 use Rattle.ep_top.specs.Exchange.{session_event, text_of, texts_of, act_in, StopsAtQuit}
 use Rattle.ep_top.specs.Responder.{Responds, KeepsAllButAnswers}
-use Rattle.ep_top.specs.Stand.{most_pending, but_last, AnswersWaited, Stand, stand, bytes_of, Advances, Writes, LosesSome, LastFails, BeginsWithFrame, is_quit_end, HasStopped, Breaks}
+use Rattle.ep_top.specs.Stand.{most_pending, but_last, AnswersWaited, Stand, stand, bytes_of, Advances, WritesWaiting, LosesSome, LastFails, BeginsWithFrame, is_quit_end, HasStopped, Breaks}
 
 pub appends_nothing : (held : Option (List ℕ)) → Appends held held []
 appends_nothing None = refl
@@ -142,7 +142,7 @@ serves_then a b c p q = record {
 }
 
 -- some of the pending answers were written
-pub serves_writes : (s : Stand) (left : List ℕ) (held : Option (List ℕ)) → Writes s.pending left s.held held → Advances s (record s { pending = left; held = held })
+pub serves_writes : (s : Stand) (left : List ℕ) (held : Option (List ℕ)) → WritesWaiting s.pending left s.held held → Advances s (record s { pending = left; held = held })
 serves_writes s left held w = record {
   served = [];
   written = w.written;
@@ -166,11 +166,11 @@ unfolding serves_then
 serves_then-written a b c p q = refl
 
 -- where answers are written no frame is served
-pub serves_writes-served : (s : Stand) (left : List ℕ) (held : Option (List ℕ)) (w : Writes s.pending left s.held held) → (serves_writes s left held w).served ≡ []
+pub serves_writes-served : (s : Stand) (left : List ℕ) (held : Option (List ℕ)) (w : WritesWaiting s.pending left s.held held) → (serves_writes s left held w).served ≡ []
 unfolding serves_writes
 serves_writes-served s left held w = refl
 
-pub serves_writes-written : (s : Stand) (left : List ℕ) (held : Option (List ℕ)) (w : Writes s.pending left s.held held) → (serves_writes s left held w).written ≡ w.written
+pub serves_writes-written : (s : Stand) (left : List ℕ) (held : Option (List ℕ)) (w : WritesWaiting s.pending left s.held held) → (serves_writes s left held w).written ≡ w.written
 unfolding serves_writes
 serves_writes-written s left held w = refl
 
@@ -193,7 +193,7 @@ serves_answer bytes rest more at old new held m later quit frame split a few = r
 }
 
 -- the write of all that waited was the first to fail, and some of it is left
-pub fails_here : (start here : Stand) (p : Advances start here) (left : List ℕ) (held : Option (List ℕ)) (w : Writes here.pending left here.held held) (f0 f1 : ℕ) (last : Offer)
+pub fails_here : (start here : Stand) (p : Advances start here) (left : List ℕ) (held : Option (List ℕ)) (w : WritesWaiting here.pending left here.held held) (f0 f1 : ℕ) (last : Offer)
     → f1 ≡ f0 → last ≡ offer here.held f1 (length here.pending)
     → LastFails start f0 (serves_then start here (record here { pending = left; held = held }) p (serves_writes here left held w)).served last
 fails_here start here p left held w f0 f1 last before is =
@@ -249,7 +249,7 @@ breaks_here end old new at f0 f1 last able enough p quiet why = record {
 }
 
 -- some of the pending answers were written, and nothing else changed
-pub advances_writes : (rest : List ℕ) (old new : Responder) (held now : Option (List ℕ)) (m : ℕ → Option ℕ) → KeepsAllButAnswers old new → Writes old.conn.out.bytes new.conn.out.bytes held now
+pub advances_writes : (rest : List ℕ) (old new : Responder) (held now : Option (List ℕ)) (m : ℕ → Option ℕ) → KeepsAllButAnswers old new → WritesWaiting old.conn.out.bytes new.conn.out.bytes held now
     → Advances (stand rest old held m false) (stand rest new now m false)
 advances_writes rest old new held now m k w = record {
   served = [];
@@ -309,7 +309,7 @@ breaks_loss start rest old new held now m at f0 f1 f2 last p k loss before rose 
 
 -- memory was wanting for the frame that was handed out, behind some answers that were written
 pub breaks_memory_at : (rest more : List ℕ) (old new : Responder) (left : List ℕ) (held now : Option (List ℕ)) (m later : ℕ → Option ℕ) (at f0 f1 : ℕ) (last : Offer) → f1 ≡ f0 → BeginsWithFrame rest → length left ≤ most_pending
-    → Writes old.conn.out.bytes left held now → new.history ≡ old.history → new.conn.out.bytes ≡ left → new.conn.features ≡ old.conn.features → ((k : ℕ) → later k ≡ m (k + 1))
+    → WritesWaiting old.conn.out.bytes left held now → new.history ≡ old.history → new.conn.out.bytes ≡ left → new.conn.features ≡ old.conn.features → ((k : ℕ) → later k ≡ m (k + 1))
     → Breaks ends.NoMemory (stand rest old held m false) (stand more new now later false) at f0 f1 last
 breaks_memory_at rest more old new left held now m later at f0 f1 last quiet begins few w history same features asked = record {
   rest = rest;
@@ -413,7 +413,7 @@ serves_first held later n frame old new sink m next quit wanted f same is e a q 
 
 -- A feeder that hands out no frame holds what it held, and nothing was served but that some answers were written.
 pub serves_none : (held later : FeederData) (n : Next) (old new : Responder) (sink now : Option (List ℕ)) (m : ℕ → Option ℕ)
-    → later ≡ after_next held n → after_next held n ≡ held → new.history ≡ old.history → new.conn.features ≡ old.conn.features → Writes old.conn.out.bytes new.conn.out.bytes sink now
+    → later ≡ after_next held n → after_next held n ≡ held → new.history ≡ old.history → new.conn.features ≡ old.conn.features → WritesWaiting old.conn.out.bytes new.conn.out.bytes sink now
     → Advances (stand held.rest old sink m false) (stand later.rest new now m false)
 serves_none held later n old new sink now m e same history features w = record {
   served = [];

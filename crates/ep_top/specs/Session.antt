@@ -18,7 +18,7 @@ use Rattle.conn_core.specs.Exchange.{Exchange, AreMoments}
 use Rattle.ep_top.specs.Exchange.{session_event, texts_of, StopsAtQuit}
 use Rattle.ep_top.specs.Responder.{session_front, IsLegalHistory, ResponderIsSound}
 use Rattle.ep_top.specs.Outside.{Outside}
-use Rattle.ep_top.specs.Stand.{most_pending, Stand, stand, bytes_of, Advances, Writes, LastFails, BeginsWithFrame, is_quit_end}
+use Rattle.ep_top.specs.Stand.{most_pending, Stand, stand, bytes_of, Advances, WritesWaiting, LastFails, BeginsWithFrame, is_quit_end}
 
 -- how many bytes a session takes at most
 abbrev pub most_taken : ℕ
@@ -236,7 +236,7 @@ pub record Stops (before now : Outside) (end : End) (responder : Responder) : Ty
 pub record Written (end final : End) (pending : List ℕ) (old new : Option (List ℕ)) (old_faults new_faults : ℕ) : Type 0 where
   pub same : final ≡ end
   pub able : end ≢ ends.WriteFault
-  pub writes : Writes pending [] old new
+  pub writes : WritesWaiting pending [] old new
   pub quiet : new_faults ≡ old_faults
 
 -- some of them are lost by a fault of writing, which is then the end
@@ -245,7 +245,7 @@ pub record Lost (end final : End) (pending : List ℕ) (old new : Option (List �
   pub some : pending ≢ []
   pub fault : final ≡ ends.WriteFault
   pub lost : List ℕ
-  pub writes : Writes pending lost old new
+  pub writes : WritesWaiting pending lost old new
   pub why : RoseByOne old_faults new_faults
   pub offered : last ≡ offer old old_faults (length pending)
 

@@ -63,14 +63,14 @@ pub record Advances (old new : Stand) : Type 0 where
   pub asked : (k : ℕ) → new.moment k ≡ old.moment (length served + k)
 
 -- a first part of the pending answers was written, and the others are pending still
-pub record Writes (pending left : List ℕ) (old new : Option (List ℕ)) : Type 0 where
+pub record WritesWaiting (pending left : List ℕ) (old new : Option (List ℕ)) : Type 0 where
   pub written : List ℕ
   pub parts : pending ≡ written ++ left
   pub wrote : Appends old new written
 
 -- some of the pending answers are lost, and those before them were written
 abbrev pub LosesSome : List ℕ → Option (List ℕ) → Option (List ℕ) → Type 0
-LosesSome pending old new = (lost : List ℕ) × Writes pending lost old new
+LosesSome pending old new = (lost : List ℕ) × WritesWaiting pending lost old new
 
 -- Of all writes since then the last alone failed. It was to write all that waited, the text of the last frame that was
 -- served among it, so none was served behind it.

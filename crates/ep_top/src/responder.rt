@@ -11,7 +11,7 @@ ghost use Rattle.conn_core.specs.Acts.{act_data, own_text, features_after, IsRea
 ghost use Rattle.conn_core.specs.Conns.{answer_room};
 ghost use Rattle.ep_top.specs.AnswersCall.{AnswersCall};
 ghost use Rattle.ep_top.specs.Exchange.{act_in, vbuckets};
-ghost use Rattle.ep_top.specs.Stand.{Writes, LosesSome, most_pending};
+ghost use Rattle.ep_top.specs.Stand.{WritesWaiting, LosesSome, most_pending};
 
 use conn_core::{Act, Conn};
 use ep_edge::{Clock, Put, Sink};
@@ -98,7 +98,8 @@ impl Responder {
 
     /// Writes the answers that aren't written yet. After a fault some of them are lost.
     pub fn flush<W: Sink>(&mut self, sink: &mut W) -> Put
-        ensures done { result ≡ Put.Done → Writes self.old.conn.out.bytes self.new.conn.out.bytes
+        ensures done { result ≡ Put.Done
+            → WritesWaiting self.old.conn.out.bytes self.new.conn.out.bytes
             (W.held sink.old) (W.held sink.new) × (self.new.conn.out.bytes ≡ []) }
         ensures failed { result ≡ Put.Failed → LosesSome self.old.conn.out.bytes (W.held sink.old)
             (W.held sink.new) × RoseByOne (W.faults sink.old) (W.faults sink.new) }
@@ -122,7 +123,8 @@ impl Responder {
 
     /// Writes the answers where they are many, so that one more has room.
     pub fn make_room<W: Sink>(&mut self, sink: &mut W) -> Put
-        ensures done { result ≡ Put.Done → Writes self.old.conn.out.bytes self.new.conn.out.bytes
+        ensures done { result ≡ Put.Done
+            → WritesWaiting self.old.conn.out.bytes self.new.conn.out.bytes
             (W.held sink.old) (W.held sink.new) × (length self.new.conn.out.bytes ≤ most_pending) }
         ensures failed { result ≡ Put.Failed → LosesSome self.old.conn.out.bytes (W.held sink.old)
             (W.held sink.new) × RoseByOne (W.faults sink.old) (W.faults sink.new) }

@@ -22,17 +22,17 @@ use Rattle.vb_front.specs.Waits.{Memory, Known, Away, memory_of, waited, release
 use Rattle.vb_front.specs.Reads.{Read, read_refused, read_waits, read_memory, read_active, read_step}
 use Rattle.vb_front.specs.Writes.{shown_world, seen_meta, shown_doc, text_at, is_away, row_of, Stays, Write, write_refused, lacks_room, write_put, write_effect, write_over, write_crowded, write_waits, write_found, write_active, write_step}
 use Rattle.vb_front.specs.Controls.{Control, queue_world, control_done, control_step}
-use Rattle.vb_front.specs.Tries.{IsValueOf}
+use Rattle.vb_front.specs.Tries.{IsStepValue}
 
 -- a Get
 abbrev IsBareRead : Read → Type 0
-IsBareRead r = IsValueOf r.step r.value
+IsBareRead r = IsStepValue r.step r.value
 
 either_read : (b : Bool) (x y : Read) → IsBareRead x → IsBareRead y → IsBareRead (cond b x y)
 either_read true x y p q = p
 either_read false x y p q = q
 
-asks_bare : (b : Bool) (ticket : Ticket) → IsValueOf (cond b steps.FetchFull (steps.Fetch ticket)) []
+asks_bare : (b : Bool) (ticket : Ticket) → IsStepValue (cond b steps.FetchFull (steps.Fetch ticket)) []
 asks_bare true ticket = refl
 asks_bare false ticket = refl
 
@@ -50,15 +50,15 @@ read_active_bare : (part : StripePart) (prior : Option Ticket) (key : List ℕ) 
 read_active_bare part prior key now None = read_memory_bare part prior key now (memory_of part.table key)
 read_active_bare part prior key now (Some status) = tt
 
-pub read_bare : (part : StripePart) (prior : Option Ticket) (key : List ℕ) (now : ℕ) (step : Step) (value : List ℕ) → step ≡ (read_step part prior key now).step → value ≡ (read_step part prior key now).value → IsValueOf step value
+pub read_bare : (part : StripePart) (prior : Option Ticket) (key : List ℕ) (now : ℕ) (step : Step) (value : List ℕ) → step ≡ (read_step part prior key now).step → value ≡ (read_step part prior key now).value → IsStepValue step value
 read_bare part prior key now step value step-is value-is =
     let r = read_step part prior key now in
-    subst (λ (v : List ℕ). IsValueOf step v) (sym value-is) (subst (λ (t : Step). IsValueOf t r.value) (sym step-is)
+    subst (λ (v : List ℕ). IsStepValue step v) (sym value-is) (subst (λ (t : Step). IsStepValue t r.value) (sym step-is)
     (either_read part.table.opened (read_active part prior key now (state_refusal part.table.state true)) (read_refused part prior causes.Warming) (read_active_bare part prior key now (state_refusal part.table.state true)) refl))
 
 -- a call that may put a document
 abbrev IsBareWrite : Write → Type 0
-IsBareWrite w = IsValueOf w.step w.value
+IsBareWrite w = IsStepValue w.step w.value
 
 either_write : (b : Bool) (x y : Write) → IsBareWrite x → IsBareWrite y → IsBareWrite (cond b x y)
 either_write true x y p q = p
@@ -101,19 +101,19 @@ write_active_bare part q prior call key now None = write_found_bare part q prior
 write_active_bare part q prior call key now (Some status) = tt
 
 pub write_bare : (part : StripePart) (q : QueueData) (prior : Option Ticket) (call : CallData) (key : List ℕ) (now : ℕ) (step : Step) (value : List ℕ) → step ≡ (write_step part q prior call key now).step → value ≡ (write_step part q prior call key now).value
-    → IsValueOf step value
+    → IsStepValue step value
 write_bare part q prior call key now step value step-is value-is =
     let w = write_step part q prior call key now in
-    subst (λ (v : List ℕ). IsValueOf step v) (sym value-is) (subst (λ (t : Step). IsValueOf t w.value) (sym step-is)
+    subst (λ (v : List ℕ). IsStepValue step v) (sym value-is) (subst (λ (t : Step). IsStepValue t w.value) (sym step-is)
     (either_write part.table.opened (write_active part q prior call key now (state_refusal part.table.state true)) (write_refused part prior causes.Warming Stays) (write_active_bare part q prior call key now (state_refusal part.table.state true)) refl))
 
 -- a call on the vBucket as a whole
-either_control : (b : Bool) (x y : Control) → IsValueOf x.step x.value → IsValueOf y.step y.value → IsValueOf (cond b x y).step (cond b x y).value
+either_control : (b : Bool) (x y : Control) → IsStepValue x.step x.value → IsStepValue y.step y.value → IsStepValue (cond b x y).step (cond b x y).value
 either_control true x y p q = p
 either_control false x y p q = q
 
-pub control_bare : (q : QueueData) (id : ℕ) (call : CallData) (step : Step) (value : List ℕ) → step ≡ (control_step q id call).step → value ≡ (control_step q id call).value → IsValueOf step value
+pub control_bare : (q : QueueData) (id : ℕ) (call : CallData) (step : Step) (value : List ℕ) → step ≡ (control_step q id call).step → value ≡ (control_step q id call).value → IsStepValue step value
 control_bare q id call step value step-is value-is =
     let c = control_step q id call in
-    subst (λ (v : List ℕ). IsValueOf step v) (sym value-is) (subst (λ (t : Step). IsValueOf t c.value) (sym step-is)
+    subst (λ (v : List ℕ). IsStepValue step v) (sym value-is) (subst (λ (t : Step). IsStepValue t c.value) (sym step-is)
     (either_control q.opened (control_done (answer_row (queue_world q id) call 0)) (record { step = steps.Refused causes.Warming; value = [] }) tt refl))

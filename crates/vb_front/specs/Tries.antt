@@ -52,11 +52,11 @@ event_by caller call now prior value (Ok step) = event_of caller call now prior 
 event_by caller call now prior value (Err busy) = None
 
 -- only an answer has a value
-abbrev pub IsValueOf : Step → List ℕ → Type 0
-IsValueOf (steps.Done reply) value = Unit {0}
-IsValueOf (steps.Refused cause) value = value ≡ []
-IsValueOf (steps.Fetch ticket) value = value ≡ []
-IsValueOf steps.FetchFull value = value ≡ []
+abbrev pub IsStepValue : Step → List ℕ → Type 0
+IsStepValue (steps.Done reply) value = Unit {0}
+IsStepValue (steps.Refused cause) value = value ≡ []
+IsStepValue (steps.Fetch ticket) value = value ≡ []
+IsStepValue steps.FetchFull value = value ≡ []
 
 -- a point more was passed
 abbrev pub with_point : Point → Option (List Point) → Option (List Point)
@@ -261,7 +261,7 @@ pub record Tries {A F : Type 0} (front : A → FrontData) (holds : A → PartNam
   pub found : MatchResult came (λ _. losses new ≡ losses old) (λ b. (touches_call (front old).config call b.part ≡ true) × Rose (losses old) (losses new))
   pub elsewhere : IfErr came (λ b. FoundElsewhere front holds lent fixed number is_desk is_telling is_elsewhere (kind_of call) stripe old b.part)
   pub comes : IfOk came (CameTo (kind_of call) (front old) (front new) (holds old) (number old) (is_desk old) stripe prior call now value)
-  pub bare : IfOk came (λ step. IsValueOf step value)
+  pub bare : IfOk came (λ step. IsStepValue step value)
   pub short : IfOk came (λ _. length value ≤ max_value)
   pub alone : is_telling old ≡ true → front new ≡ with_noted (front old) (event_by (number old) call now prior value came)
   pub becomes : is_telling old ≡ true → MatchResult came (CameFrom (kind_of call) (front old) stripe (tells old) (tells new) prior call now value) (λ b. IsOut (front old).config (kind_of call) stripe b.part (tells old) (tells new))

@@ -17,7 +17,7 @@ ghost use Rattle.vb_front.specs.Controls.{is_control};
 ghost use Rattle.vb_front.specs.Priors.{key_in, event_of};
 ghost use Rattle.hold_stage.specs.Priors.{is_prior, PriorsStand};
 ghost use Rattle.vb_front.specs.Tries.{call_bytes, event_by, passed_by, Gets, GetsFrom, IsOut};
-ghost use Rattle.vb_front.specs.Tries.{Controls, ControlsFrom, Writes, WritesFrom, FoundElsewhere, IsValueOf, IfBusy};
+ghost use Rattle.vb_front.specs.Tries.{Controls, ControlsFrom, Writes, WritesFrom, FoundElsewhere, IsStepValue, IfBusy};
 ghost use Rattle.vb_front.specs.Tries.{kind_of, tried_by, answered_on, passed_on, Tries};
 ghost use Rattle.vb_front.specs.declared.at_stage.Kind.TheVariants.{Read, Write, Control, Change};
 
@@ -221,7 +221,7 @@ pub(crate) fn try_get<S: Stage<Part = Part>, G: Gate>(
         (S.tells stage.new)) }
     ensures kept { S.is_telling stage.old ≡ true → KeptBut (S.front stage.old).config
         (is_stripe stripe) (S.tells stage.old) (S.tells stage.new) }
-    ensures bare { IfOk result (λ step. IsValueOf step value.new.bytes) }
+    ensures bare { IfOk result (λ step. IsStepValue step value.new.bytes) }
     ensures short { IfOk result (λ _. length value.new.bytes ≤ max_value) }
     ensures same { IfErr result (λ _. value.new ≡ value.old) }
     ensures spare { value.new.spare + length value.new.bytes ≡ value.old.spare
@@ -274,7 +274,7 @@ pub(crate) fn try_control<S: Stage<Part = Part>>(
         b.part (S.tells stage.old) (S.tells stage.new)) }
     ensures kept { S.is_telling stage.old ≡ true → KeptBut (S.front stage.old).config is_queue
         (S.tells stage.old) (S.tells stage.new) }
-    ensures bare { IfOk result (λ step. IsValueOf step value.new.bytes) }
+    ensures bare { IfOk result (λ step. IsStepValue step value.new.bytes) }
     ensures short { IfOk result (λ _. length value.new.bytes ≤ max_value) }
     ensures same { IfErr result (λ _. value.new ≡ value.old) }
     ensures spare { value.new.spare + length value.new.bytes ≡ value.old.spare
@@ -339,7 +339,7 @@ pub(crate) fn try_write<S: Stage<Part = Part>, G: Gate>(
         stripe b.part (S.tells stage.old) (S.tells stage.new)) }
     ensures kept { S.is_telling stage.old ≡ true → KeptBut (S.front stage.old).config
         (λ p. is_stripe stripe p || is_queue p) (S.tells stage.old) (S.tells stage.new) }
-    ensures bare { IfOk result (λ step. IsValueOf step value.new.bytes) }
+    ensures bare { IfOk result (λ step. IsStepValue step value.new.bytes) }
     ensures short { IfOk result (λ _. length value.new.bytes ≤ max_value) }
     ensures same { IfErr result (λ _. value.new ≡ value.old) }
     ensures spare { value.new.spare + length value.new.bytes ≡ value.old.spare

@@ -1,5 +1,5 @@
 -- The words are those that the iterator yields behind the first, since it has as many as its items say.
-use Rattle.std.proofs.Common.{rules, ◌≡◌, drop, IfOk, ap, ◌∙◌}
+use Rattle.std.proofs.Common.{rules, ap, ◌∙◌}
 use Rattle.std.specs.Vec.Iter.{into_iter_items, into_iter_len}
 use Rattle.std.proofs.lemmas.Iterator.{items_from_collect}
 use Rattle.std.proofs.lemmas.Iterator.Adapters.{YieldsList-from_skip, YieldsList-from_vec}
