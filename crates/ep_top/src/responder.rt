@@ -158,7 +158,8 @@ fn sort<'a>(conn: &mut Conn, frame: &Frame<'a>) -> Act<'a>
     conn.sort_frame(frame, VBUCKETS)
 }
 
-// Answers a call, notes that, and appends the text of its reply. At an error nothing is left of it.
+// Answers a call, notes that, and appends the text of its reply. At an error neither event nor answer is left of it; the
+// plain map may be a call ahead, and answers no other.
 fn answer_call(
     plain: &mut Plain,
     history: &mut History,
