@@ -28,3 +28,6 @@ pub mod StripeLemmas
 pub mod TryLemmas
 pub mod BareLemmas
 pub mod WorldLemmas
+pub mod OpenedLemmas
+pub mod HeldLemmas
+pub mod ServedLemmas

@@ -1,8 +1,6 @@
 -- What a desk and a batch are to a history. What they say of documents stands under `shown`, as far as the start's are known.
 use Rattle.std.specs.Prelude.{◌≡◌, ◌⊎◌, ℕ, ◌<◌, ◌≤◌, true, Option, Some, None, IfSome, IsSome, is_none}
 use Rattle.std.specs.List.{AllByRecursion}
-use Rattle.ep_model.specs.declared.data.EventData.{EventData}
-use Rattle.ep_model.specs.declared.data.EventData.TheVariants as events
 use Rattle.ep_model.specs.declared.data.FrontData.{FrontData}
 use Rattle.ep_model.specs.Front.{world_of}
 use Rattle.hold_stage.specs.Histories.{world_at}

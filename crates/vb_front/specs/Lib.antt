@@ -15,3 +15,4 @@ pub mod Queues
 pub mod StripeLaws
 pub mod Batches
 pub mod Tries
+pub mod Opened

@@ -1,6 +1,5 @@
 -- A ticket at which a call has asked before, and the event that a call on held parts notes.
-use Rattle.std.specs.Prelude.{◌≡◌, ℕ, Bool, false, ◌==◌, ◌&&◌, if◌then◌else◌, List, [], ◌∷◌, ◌++◌, Option, Some, None}
-use Rattle.std.specs.List.{AllByRecursion}
+use Rattle.std.specs.Prelude.{ℕ, if◌then◌else◌, List, [], Option, Some, None}
 use Rattle.std.specs.Option.{unwrap_or}
 use Rattle.ep_model.specs.declared.event.Ticket.{Ticket}
 use Rattle.ep_model.specs.declared.data.CallData.{CallData}
@@ -9,7 +8,7 @@ use Rattle.ep_model.specs.declared.data.EventData.TheVariants as events
 use Rattle.ep_model.specs.declared.data.FrontData.{FrontData}
 use Rattle.ep_model.specs.Calls.{key_of}
 use Rattle.ep_model.specs.Front.{with_event}
-use Rattle.ep_model.specs.Legal.{IsSilent, May}
+use Rattle.ep_model.specs.Legal.{May}
 use Rattle.hold_stage.specs.Priors.{is_prior}
 use Rattle.vb_front.specs.declared.step.Step.{Step}
 use Rattle.vb_front.specs.declared.step.Step.TheVariants as steps

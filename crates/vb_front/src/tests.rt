@@ -2,9 +2,12 @@
 mod at_stage;
 mod generated;
 mod held;
+mod opened;
 mod places;
 mod refusals;
+mod served;
 mod waits;
+mod worlds;
 mod writes;
 
 ghost use Rattle.std.specs.Prelude.{◌≡◌, ◌+◌, ◌≤◌, length};

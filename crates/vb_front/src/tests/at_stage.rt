@@ -1,21 +1,16 @@
 // Calls at the stage of a world whose vBucket hasn't opened.
-ghost use Rattle.std.specs.Prelude.{◌≡◌, ◌+◌, ◌≤◌, ℕ, false, length, IfOk};
+ghost use Rattle.std.specs.Prelude.{◌≡◌, ◌+◌, ◌≤◌, false, length};
 ghost use Rattle.ep_model.specs.declared.event.PartName.{PartName};
 ghost use Rattle.ep_model.specs.Limits.{IsWithin, max_value};
 ghost use Rattle.ep_model.specs.History.{call_data};
-ghost use Rattle.hold_stage.specs.Slots.{StandBare};
 ghost use Rattle.vb_world.specs.World.{has_out};
-ghost use Rattle.vb_front.specs.Parts.{part_stands};
 ghost use Rattle.vb_front.specs.Tries.{kind_of};
 ghost use Rattle.vb_front.specs.declared.at_stage.Kind.TheVariants.{Change};
 
-use crate::{DeskPart, Part, StripePart, Tried, try_call};
-use ckpt_manager::Queue;
+use super::worlds::one_vbucket;
+use crate::{Part, Tried, try_call};
 use ep_edge::OpenGate;
-use ep_model::{Call, Config, Eviction, NoMemory, Out, Reply, StoreKind};
-use fetch_book::Book;
-use hash_stripe::Stripe;
-use std::alloc::Global;
+use ep_model::{Call, Config, Eviction, Out, Reply, StoreKind};
 use std::test::Fail;
 use vb_world::World;
 
@@ -31,33 +26,6 @@ const CONFIG: Config = Config {
 
 /// The bytes of an event's call and answer.
 const ROOM: usize = 2_097_402;
-
-/// The parts of a vBucket that has nothing.
-fn empty_parts(alloc: Global) -> Result<Vec<Part>, NoMemory>
-    ensures count { IfOk result (λ parts. length parts.items ≡ 3) }
-    ensures stand { IfOk result (λ parts. StandBare part_stands CONFIG 0 parts.items) }
-{
-    let table = Stripe::new(alloc, 0, &CONFIG)?;
-    let book = Book::new(alloc, 0)?;
-    let queue = Queue::new(alloc, &CONFIG)?;
-    let mut parts = Vec::with_capacity(alloc, 3)?;
-    parts.push(Part::Stripe(StripePart { table, book }))?;
-    parts.push(Part::Queue(queue))?;
-    parts.push(Part::Desk(DeskPart { persisted: 0 }))?;
-    Ok(parts)
-}
-
-/// A world of one vBucket.
-fn one_vbucket(alloc: Global) -> Result<World<Part>, NoMemory>
-    ensures config { IfOk result (λ w. w.config ≡ CONFIG) }
-    ensures buckets { IfOk result (λ w. length w.buckets ≡ 1) }
-    ensures home { IfOk result (λ w. (caller : ℕ) (part : PartName) → has_out w 0 caller part
-        ≡ false) }
-{
-    let mut world = World::new(alloc, &CONFIG)?;
-    world.add(empty_parts(alloc)?)?;
-    Ok(world)
-}
 
 /// Tries a call of the caller 7, for whom there is room.
 fn tried(world: &mut World<Part>, call: &Call, value: &mut Out) -> Option<Tried>
@@ -103,7 +71,7 @@ fn calls(world: &mut World<Part>, value: &mut Out) -> [Option<Tried>; 3]
 
 #[test]
 fn calls_are_refused_before_the_vbucket_has_opened(rt: HostRuntime) -> Result<(), Fail> {
-    let mut world = one_vbucket(rt.alloc())?;
+    let mut world = one_vbucket(rt.alloc(), &CONFIG)?;
     let mut value = Out::new(rt.alloc(), 1_048_576)?;
     let tried = calls(&mut world, &mut value);
     let refused = Some(Tried::Done(Reply::refusal(0x86)));

@@ -1,15 +1,25 @@
-// Calls as they are generated on held parts beside a plain program, with ejecting between them.
-ghost use Rattle.std.specs.Prelude.{◌≡◌, ◌≤◌, ◌+◌, true, length};
-ghost use Rattle.ep_model.specs.Calls.{has_key};
+// Calls as they are generated, tried at the stage of a world beside a plain program, over a store that fails at times.
+ghost use Rattle.std.specs.Prelude.{◌≡◌, ◌≤◌, ◌+◌, true, length, Some, IfSome, IfErr, MatchResult};
+ghost use Rattle.ep_model.specs.declared.data.CallData.{CallData};
+ghost use Rattle.ep_model.specs.declared.event.Ticket.{Ticket};
 ghost use Rattle.ep_model.specs.History.{call_data};
+ghost use Rattle.ep_model.specs.Legal.{HasAsked};
 ghost use Rattle.ep_model.specs.Limits.{IsKey, IsMoment, IsValue, IsWithin};
+ghost use Rattle.vb_world.specs.World.{front_in};
+ghost use Rattle.vb_front.specs.Opened.{IsUnderway};
+ghost use Rattle.hold_stage.specs.Priors.{PriorsStand, PriorStands};
+ghost use Rattle.vb_front.specs.Tries.{kind_of};
+ghost use Rattle.vb_front.specs.declared.at_stage.Kind.TheVariants.{Change};
+ghost use Rattle.vb_front.specs.declared.at_stage.Tried.TheVariants.{Fetch};
 
-use super::held::{Held, open_parts};
-use crate::Step;
-use ep_model::{Call, Cause, Eviction, Meta, Out, Plain, Reply, StoreKind, Ticket};
-use fetch_book::Outcome;
-use hash_stripe::Found;
+use super::config;
+use super::opened::Told;
+use super::served::{eject, fail, look, mark, merge, opened, persist, tried};
+use crate::{Part, Tried};
+use ep_model::status::TEMPORARY_FAILURE;
+use ep_model::{Call, Config, Eviction, Meta, Out, Plain, Reply, StoreKind, Ticket};
 use std::alloc::Global;
+use vb_world::World;
 
 const MOMENT: u64 = 1_000_000_000_000_000_000;
 
@@ -27,261 +37,444 @@ fn draw(seed: &mut u32) -> u32 {
     *seed >> 8
 }
 
-/// Parts, a plain program, and the metadata of what the store has.
+/// A plain program, and the value that it answered last.
 #[derive(Drop)]
-struct Both {
-    held: Held,
+struct Oracle {
     plain: Plain,
-    wanted: Out,
-    stored: [Option<Meta>; 8],
-    fetches: u64,
-    refusals: u64,
-    ghost room: { 1048576 ≤ wanted.spare + length wanted.bytes },
+    value: Out,
+    ghost room: { 1048576 ≤ value.spare + length value.bytes },
 }
 
-impl Both {
-    /// All that is in memory is stored.
-    fn store(&mut self) {
-        for key in 0..8u8 {
-            if let Found::Resident(meta) = self.held.part.table.find(&[key]) {
-                self.stored[usize::from(key % 8)] = Some(meta);
-            }
-        }
-        let high = self.held.queue.high();
-        if self.held.queue.persisted() < high {
-            self.held.queue.set_persisted(high);
-        }
-        self.held.mark(high);
-    }
-
-    /// What the plain program answers to a call.
-    fn plain(&mut self, call: &Call, now: u64) -> Option<Reply>
+impl Oracle {
+    fn answer(&mut self, call: &Call, now: u64) -> Option<Reply>
         requires within { IsWithin (call_data call.now) }
         requires moment { IsMoment now }
     {
-        self.wanted.cut(0);
-        match self.plain.answer(call, now, &mut self.wanted) {
+        self.value.cut(0);
+        match self.plain.answer(call, now, &mut self.value) {
             Ok(reply) => Some(reply),
             Err(_) => None,
         }
     }
+}
 
-    /// What the store comes to where it is read for a key: the document that the plain program has, which was not changed since
-    /// it was stored.
-    fn read_store(&mut self, key: u8) -> Option<Outcome> {
-        let stored = self.stored[usize::from(key % 8)];
-        let Some(meta) = stored else {
-            return Some(Outcome::Absent);
+/// A vBucket that has opened, and how many reads of its store failed.
+#[derive(Drop)]
+struct Served {
+    world: World<Part>,
+    config: Config,
+    value: Out,
+    faults: u64,
+    ghost room: { 1048576 ≤ value.spare + length value.bytes },
+}
+
+/// How often what came, and how many events were noted.
+#[derive(Clone, Copy, Drop)]
+struct Counts {
+    answers: u32,
+    fetches: u32,
+    refusals: u32,
+    events: u64,
+}
+
+fn counted(count: &mut u32) {
+    *count = count.wrapping_add(1);
+}
+
+/// Both programs, and the metadata of what the store has.
+#[derive(Drop)]
+struct Both {
+    served: Served,
+    oracle: Oracle,
+    stored: [Option<Meta>; 8],
+    persisted: u64,
+    has_failed: bool,
+    counts: Counts,
+}
+
+impl Both {
+    fn noted(&mut self)
+        ensures { self.new.served ≡ self.old.served }
+    {
+        self.counts.events = self.counts.events.wrapping_add(1);
+    }
+
+    /// What was found in memory is stored, which is noted where it is more than was.
+    fn keep(&mut self, told: &Told)
+        ensures { self.new.served ≡ self.old.served }
+    {
+        keep_found(&mut self.stored, &told.found);
+        if self.persisted < told.high {
+            self.persisted = told.high;
+            self.noted();
+        }
+    }
+
+    /// That the stripe is told what is stored is noted where it doesn't know.
+    fn marks(&mut self, told: &Told)
+        ensures { self.new.served ≡ self.old.served }
+    {
+        if told.marked < self.persisted {
+            self.noted();
+        }
+    }
+
+    /// All that is in memory is stored.
+    fn persist(&mut self) -> bool
+        requires { IsUnderway self.old.served.config self.old.served.faults self.old.served.world }
+        ensures { result ≡ true
+            → IsUnderway self.new.served.config self.new.served.faults self.new.served.world }
+    {
+        let Some(told) = look(&mut self.served.world, &self.served.config, 0) else {
+            return false;
         };
-        if meta.deleted {
-            return Some(Outcome::Absent);
+        self.keep(&told);
+        persist(&mut self.served.world, &self.served.config)
+    }
+
+    /// The stripe is told what is stored.
+    fn mark(&mut self) -> bool
+        requires { IsUnderway self.old.served.config self.old.served.faults self.old.served.world }
+        ensures { result ≡ true
+            → IsUnderway self.new.served.config self.new.served.faults self.new.served.world }
+    {
+        let Some(told) = look(&mut self.served.world, &self.served.config, 0) else {
+            return false;
+        };
+        self.marks(&told);
+        mark(&mut self.served.world, &self.served.config)
+    }
+
+    /// The read at this ticket fails.
+    fn fail(&mut self, ticket: Ticket) -> bool
+        requires served { IsUnderway self.old.served.config self.old.served.faults
+            self.old.served.world }
+        requires asked { HasAsked (front_in self.old.served.world 0).events ticket }
+        ensures served { result ≡ true
+            → IsUnderway self.new.served.config self.new.served.faults self.new.served.world }
+        ensures priors { result ≡ true → (call : CallData)
+            → PriorStands (front_in self.old.served.world 0) 7 call ticket
+            → PriorStands (front_in self.new.served.world 0) 7 call ticket }
+    {
+        self.has_failed = true;
+        self.noted();
+        if self.served.faults > 1_000_000 {
+            return false;
         }
-        let reply = self.plain(&Call::Get { key: &[key] }, 0)?;
+        self.served.faults += 1;
+        fail(
+            &mut self.served.world,
+            &self.served.config,
+            ticket,
+            self.served.faults,
+        )
+    }
+
+    /// The read of a key's document at this ticket comes to what the store has: the document of the plain program, which was
+    /// not changed since it was stored. It answers whether its place was there.
+    fn merge(&mut self, key: u8, ticket: Ticket) -> bool
+        requires served { IsUnderway self.old.served.config self.old.served.faults
+            self.old.served.world }
+        ensures served { result ≡ true
+            → IsUnderway self.new.served.config self.new.served.faults self.new.served.world }
+        ensures front { front_in self.new.served.world 0 ≡ front_in self.old.served.world 0 }
+    {
+        self.has_failed = false;
+        let name = [key];
+        let Some(reply) = self.oracle.answer(&Call::Get { key: &name }, 0) else {
+            return false;
+        };
+        let stored = stored_at(&self.stored, key);
+        let served = &mut self.served;
+        let Some(meta) = stored else {
+            return merge(&mut served.world, &served.config, ticket, &name, None, &[]);
+        };
         if reply.cas != meta.cas {
-            return None;
+            return false;
         }
-        let Both { held, wanted, .. } = self;
-        put_back(held, &[key], meta, wanted.bytes())
+        let oracle = &self.oracle;
+        let value = oracle.value.bytes();
+        if value.len() > 1_048_576 {
+            return false;
+        }
+        merge(
+            &mut served.world,
+            &served.config,
+            ticket,
+            &name,
+            stored,
+            value,
+        )
     }
 
-    /// Settles a place, and answers whether it was there.
-    fn settle(&mut self, key: u8, ticket: Ticket) -> bool {
-        self.fetches = self.fetches.wrapping_add(1);
-        match self.read_store(key) {
-            None => false,
-            Some(outcome) => self.held.part.book.settle(ticket, outcome),
+    /// The read of a key's document ends, at times in a failure. It answers whether its place was there.
+    fn settle(&mut self, key: u8, ticket: Ticket) -> bool
+        requires served { IsUnderway self.old.served.config self.old.served.faults
+            self.old.served.world }
+        requires asked { HasAsked (front_in self.old.served.world 0).events ticket }
+        ensures served { result ≡ true
+            → IsUnderway self.new.served.config self.new.served.faults self.new.served.world }
+        ensures priors { result ≡ true → (call : CallData)
+            → PriorStands (front_in self.old.served.world 0) 7 call ticket
+            → PriorStands (front_in self.new.served.world 0) 7 call ticket }
+    {
+        counted(&mut self.counts.fetches);
+        if self.counts.fetches % 7 == 0 {
+            self.fail(ticket)
+        } else {
+            self.merge(key, ticket)
         }
     }
 
-    /// Whether a call may be refused for want of room: others that can't be ejected leave too little. Then all is stored.
-    fn may_refuse(&mut self, key: u8, cause: Cause) -> bool {
-        self.refusals = self.refusals.wrapping_add(1);
-        let pinned = u64::from(self.held.part.table.pinned(&[key]));
-        let is_full = u64::from(BLOCKS) < pinned + u64::from(MOST);
-        let is_stored = self.held.part.table.marked() == self.held.queue.high();
-        self.store();
-        cause == Cause::Quota && is_full && !is_stored
+    /// Whether a call may be refused: the read that it waited for failed, or others that can't be ejected leave too little
+    /// room. Then all is stored.
+    fn may_refuse(&mut self, key: u8) -> bool
+        requires { IsUnderway self.old.served.config self.old.served.faults self.old.served.world }
+        ensures { result ≡ true
+            → IsUnderway self.new.served.config self.new.served.faults self.new.served.world }
+    {
+        if self.has_failed {
+            self.has_failed = false;
+            return true;
+        }
+        counted(&mut self.counts.refusals);
+        let Some(told) = look(&mut self.served.world, &self.served.config, key) else {
+            return false;
+        };
+        if u64::from(BLOCKS) >= u64::from(told.pinned) + u64::from(MOST) {
+            return false;
+        }
+        if told.marked == told.high {
+            return false;
+        }
+        if !self.persist() {
+            return false;
+        }
+        self.mark()
     }
 
     /// Whether the plain program answers the same.
     fn is_plain(&mut self, call: &Call, now: u64, reply: Reply) -> bool
         requires within { IsWithin (call_data call.now) }
         requires moment { IsMoment now }
+        ensures { self.new.served ≡ self.old.served }
     {
-        if self.plain(call, now) != Some(reply) {
+        counted(&mut self.counts.answers);
+        if self.has_failed {
             return false;
         }
-        let Both { held, wanted, .. } = self;
-        has_shown(held, wanted.bytes())
+        if self.oracle.answer(call, now) != Some(reply) {
+            return false;
+        }
+        let persisted = self.persisted;
+        let served = &self.served;
+        let oracle = &self.oracle;
+        is_shown(call, served.value.bytes(), oracle.value.bytes(), persisted)
     }
 
-    /// Whether a call on this key is answered as by the plain program, once its places were settled and there was room.
-    fn is_answered(&mut self, key: u8, call: &Call, now: u64) -> bool
-        requires keyed { has_key (call_data call.now) ≡ true }
+    /// Tries a call.
+    fn tried(&mut self, call: &Call, now: u64, prior: Option<Ticket>) -> Option<Tried>
+        requires served { IsUnderway self.old.served.config self.old.served.faults
+            self.old.served.world }
         requires within { IsWithin (call_data call.now) }
+        requires given { kind_of (call_data call.now) ≡ Change → ⊥ }
         requires moment { IsMoment now }
+        requires prior { PriorsStand (front_in self.old.served.world 0) 7 (call_data call.now)
+            prior }
+        ensures served { IfSome result (λ _. IsUnderway self.new.served.config
+            self.new.served.faults self.new.served.world) }
+        ensures waits { (ticket : Ticket) → result ≡ Some (Fetch ticket)
+            → PriorStands (front_in self.new.served.world 0) 7 (call_data call.now) ticket }
+        ensures asked { (ticket : Ticket) → result ≡ Some (Fetch ticket)
+            → HasAsked (front_in self.new.served.world 0).events ticket }
+    {
+        let served = &mut self.served;
+        tried(
+            &mut served.world,
+            &served.config,
+            call,
+            now,
+            prior,
+            &mut served.value,
+        )
+    }
+
+    /// Tries a call: whether it is answered alike, or the ticket with which it is to be tried again.
+    fn round(
+        &mut self,
+        key: u8,
+        call: &Call,
+        now: u64,
+        prior: Option<Ticket>,
+    ) -> Result<bool, Option<Ticket>>
+        requires served { IsUnderway self.old.served.config self.old.served.faults
+            self.old.served.world }
+        requires within { IsWithin (call_data call.now) }
+        requires given { kind_of (call_data call.now) ≡ Change → ⊥ }
+        requires moment { IsMoment now }
+        requires prior { PriorsStand (front_in self.old.served.world 0) 7 (call_data call.now)
+            prior }
+        ensures served { MatchResult result (λ is_alike. is_alike ≡ true
+            → IsUnderway self.new.served.config self.new.served.faults self.new.served.world)
+            (λ _. IsUnderway self.new.served.config self.new.served.faults self.new.served.world) }
+        ensures again { IfErr result (PriorsStand (front_in self.new.served.world 0) 7
+            (call_data call.now)) }
+    {
+        match self.tried(call, now, prior) {
+            Some(Tried::Done(reply)) => {
+                self.noted();
+                if reply != Reply::refusal(TEMPORARY_FAILURE) {
+                    return Ok(self.is_plain(call, now, reply));
+                }
+                if self.may_refuse(key) {
+                    Err(None)
+                } else {
+                    Ok(false)
+                }
+            }
+            Some(Tried::Fetch(ticket)) => {
+                self.noted();
+                if self.settle(key, ticket) {
+                    Err(Some(ticket))
+                } else {
+                    Ok(false)
+                }
+            }
+            _ => Ok(false),
+        }
+    }
+
+    /// Whether a call on this key, or on none, is answered as by the plain program, once its places were settled and there
+    /// was room.
+    fn is_answered(&mut self, key: u8, call: &Call, now: u64) -> bool
+        requires served { IsUnderway self.old.served.config self.old.served.faults
+            self.old.served.world }
+        requires within { IsWithin (call_data call.now) }
+        requires given { kind_of (call_data call.now) ≡ Change → ⊥ }
+        requires moment { IsMoment now }
+        ensures served { result ≡ true
+            → IsUnderway self.new.served.config self.new.served.faults self.new.served.world }
     {
         let mut prior = None;
         for _ in 0..8 {
-            match step(&mut self.held, call, now, prior) {
-                Step::Done(reply) => return self.is_plain(call, now, reply),
-                Step::Fetch(ticket) => {
-                    if !self.settle(key, ticket) {
-                        return false;
-                    }
-                    prior = Some(ticket);
-                }
-                Step::Refused(cause) => {
-                    if !self.may_refuse(key, cause) {
-                        return false;
-                    }
-                    prior = None;
-                }
-                Step::FetchFull => return false,
+            match self.round(key, call, now, prior) {
+                Ok(is_alike) => return is_alike,
+                Err(next) => prior = next,
             }
         }
         false
     }
 
     /// The CAS of a generated call: none, that of the document, or another one.
-    fn cas(&mut self, key: u8, now: u64, number: u32) -> Option<u64>
+    fn cas(&mut self, key: u8, now: u64, number: u32) -> u64
         requires { IsMoment now }
+        ensures { self.new.served ≡ self.old.served }
     {
         match number % 4 {
-            0 => Some(self.plain(&Call::Get { key: &[key] }, now)?.cas),
-            1 => Some(9),
-            _ => Some(0),
+            0 => match self.oracle.answer(&Call::Get { key: &[key] }, now) {
+                Some(reply) => reply.cas,
+                None => 0,
+            },
+            1 => 9,
+            _ => 0,
         }
     }
 
-    /// One step: what is in memory is stored, a document is ejected, or a call is answered.
+    /// One step: something is stored, or known to be, or ejected, or a call is answered.
     fn goes_alike(&mut self, number: u32, more: u32, now: u64) -> bool
-        requires { IsMoment now }
+        requires served { IsUnderway self.old.served.config self.old.served.faults
+            self.old.served.world }
+        requires moment { IsMoment now }
+        ensures served { result ≡ true
+            → IsUnderway self.new.served.config self.new.served.faults self.new.served.world }
     {
         let key = (number % 8) as u8;
         match number / 8 % 16 {
-            0 => {
-                self.store();
-                true
-            }
-            1 | 2 | 3 => {
-                let _was_there = self.held.eject(&[key]);
-                true
-            }
+            0 => self.persist(),
+            1 => self.mark(),
+            2 | 3 => eject(&mut self.served.world, &self.served.config, more % 1500),
             _ => {
-                let Some(cas) = self.cas(key, now, more) else {
-                    return false;
-                };
-                self.call_goes_alike(number / 128, more / 4, key, cas, now)
+                let cas = self.cas(key, now, more);
+                let name = [key];
+                let call = generated(number / 128, more / 4, &name, cas);
+                self.is_answered(key, &call, now)
             }
         }
     }
+}
 
-    /// Whether a generated call is answered as by the plain program.
-    fn call_goes_alike(&mut self, number: u32, more: u32, key: u8, cas: u64, now: u64) -> bool
-        requires { IsMoment now }
-    {
-        let expiration = if more % 4 == 0 { 2 } else { 0 };
-        let flag = more / 4 % 2 == 0;
-        let rest = more / 32;
-        match number % 10 {
-            0 | 1 => self.is_answered(key, &Call::Get { key: &[key] }, now),
-            2 | 3 => self.stores_alike(StoreKind::Set, key, rest, expiration, cas, now),
-            4 => self.stores_alike(StoreKind::Add, key, rest, expiration, cas, now),
-            5 => self.stores_alike(StoreKind::Replace, key, rest, expiration, cas, now),
-            6 => self.joins_alike(flag, key, rest, cas, now),
-            7 => self.counts_alike(flag, key, rest, cas, now),
-            8 => self.is_answered(key, &Call::Delete { key: &[key], cas }, now),
-            _ => self.touches_alike(key, expiration, flag, now),
+/// The documents that were found are stored.
+fn keep_found(stored: &mut [Option<Meta>; 8], found: &[Option<Meta>; 8]) {
+    for key in 0..8usize {
+        if found[key].is_some() {
+            stored[key] = found[key];
         }
     }
-
-    /// A generated Set, Add or Replace.
-    fn stores_alike(
-        &mut self,
-        kind: StoreKind,
-        key: u8,
-        more: u32,
-        expiration: u32,
-        cas: u64,
-        now: u64,
-    ) -> bool
-        requires { IsMoment now }
-    {
-        let name = [key];
-        let call = store(kind, &name, value_of(more), expiration, cas);
-        self.is_answered(key, &call, now)
-    }
-
-    /// A generated Append or Prepend.
-    fn joins_alike(&mut self, front: bool, key: u8, more: u32, cas: u64, now: u64) -> bool
-        requires { IsMoment now }
-    {
-        let name = [key];
-        let call = join(front, &name, &BYTES[..(more % 90) as usize], cas);
-        self.is_answered(key, &call, now)
-    }
-
-    /// A generated counter.
-    fn counts_alike(&mut self, down: bool, key: u8, more: u32, cas: u64, now: u64) -> bool
-        requires { IsMoment now }
-    {
-        let name = [key];
-        let expiration = if more % 4 == 0 { u32::MAX } else { 0 };
-        let call = count(down, &name, more / 4, expiration, cas);
-        self.is_answered(key, &call, now)
-    }
-
-    /// A generated Touch or Get-and-touch.
-    fn touches_alike(&mut self, key: u8, expiration: u32, fetch: bool, now: u64) -> bool
-        requires { IsMoment now }
-    {
-        let name = [key];
-        let call = Call::Touch {
-            key: &name,
-            expiration,
-            fetch,
-        };
-        self.is_answered(key, &call, now)
-    }
 }
 
-/// Puts a stored document back where there is room.
-fn put_back(held: &mut Held, key: &[u8], meta: Meta, value: &[u8]) -> Option<Outcome>
-    requires { IsKey key.now }
-{
-    if value.len() > 1_048_576 || meta.len as usize != value.len() {
-        return None;
-    }
-    if held.restore(key, meta, value)? {
-        Some(Outcome::Merged)
-    } else {
-        let blocks = meta.len.div_ceil(128).wrapping_add(1);
-        Some(Outcome::NoRoom { blocks })
-    }
+/// What the store has of a key, but for a deleted document.
+fn stored_at(stored: &[Option<Meta>; 8], key: u8) -> Option<Meta> {
+    let stored = stored[usize::from(key % 8)];
+    let meta = stored?;
+    if meta.deleted { None } else { Some(meta) }
 }
 
-/// Whether a call has shown this value and left no place.
-fn has_shown(held: &Held, wanted: &[u8]) -> bool {
-    held.value.bytes() == wanted && held.part.book.used() == 0
-}
-
-/// A call on a key, at the parts that it touches.
-fn step(held: &mut Held, call: &Call, now: u64, prior: Option<Ticket>) -> Step
-    requires keyed { has_key (call_data call.now) ≡ true }
-    requires within { IsWithin (call_data call.now) }
-    requires moment { IsMoment now }
-{
+/// Whether a call shows what the plain program's does.
+fn is_shown(call: &Call, shown: &[u8], wanted: &[u8], persisted: u64) -> bool {
     match *call {
-        Call::Get { key } => held.get(key, now, prior),
-        Call::Store { .. }
-        | Call::Join { .. }
-        | Call::Count { .. }
-        | Call::Delete { .. }
-        | Call::Touch { .. } => held.write(call, now, prior),
-        Call::Observe { .. } | Call::Failovers | Call::SetState { .. } | Call::GetState => {
-            unreachable!()
-        }
+        Call::Observe { .. } => has_observed(shown, wanted, persisted),
+        _ => shown == wanted,
+    }
+}
+
+/// Whether an Observe shows what the plain program's does, but for the number that is stored: there it is none.
+fn has_observed(shown: &[u8], wanted: &[u8], persisted: u64) -> bool {
+    if shown.len() != 27 || wanted.len() != 27 {
+        return shown == wanted;
+    }
+    &shown[..11] == &wanted[..11]
+        && &shown[11..19] == persisted.to_be_bytes().as_slice()
+        && &shown[19..] == &wanted[19..]
+}
+
+/// A generated call on this key, or on none.
+fn generated<'a>(number: u32, more: u32, key: &'a [u8], cas: u64) -> Call<'a>
+    requires key { IsKey key.now }
+    ensures within { IsWithin (call_data result) }
+    ensures given { kind_of (call_data result) ≡ Change → ⊥ }
+{
+    let expiration = if more % 4 == 0 { 2 } else { 0 };
+    let flag = more / 4 % 2 == 0;
+    let rest = more / 32;
+    match number % 12 {
+        0 | 1 => Call::Get { key },
+        2 | 3 => store(StoreKind::Set, key, rest, expiration, cas),
+        4 => store(StoreKind::Add, key, rest, expiration, cas),
+        5 => store(StoreKind::Replace, key, rest, expiration, cas),
+        6 => join(flag, key, rest, cas),
+        7 => count(flag, key, rest, cas),
+        8 => Call::Delete { key, cas },
+        9 => Call::Touch {
+            key,
+            expiration,
+            fetch: flag,
+        },
+        10 => Call::Observe {
+            uuid: u64::from(more % 2),
+        },
+        _ => whole(flag),
+    }
+}
+
+/// A call on the vBucket as a whole.
+fn whole<'a>(flag: bool) -> Call<'a>
+    ensures within { IsWithin (call_data result) }
+    ensures given { kind_of (call_data result) ≡ Change → ⊥ }
+{
+    if flag {
+        Call::Failovers
+    } else {
+        Call::GetState
     }
 }
 
@@ -296,57 +489,57 @@ fn value_of(more: u32) -> &'static [u8]
 }
 
 /// An Append or a Prepend.
-fn join<'a>(front: bool, key: &'a [u8], value: &'a [u8], cas: u64) -> Call<'a>
-    requires key { IsKey key.now }
-    requires value { IsValue value.now }
+fn join<'a>(front: bool, key: &'a [u8], more: u32, cas: u64) -> Call<'a>
+    requires { IsKey key.now }
     ensures within { IsWithin (call_data result) }
-    ensures keyed { has_key (call_data result) ≡ true }
+    ensures given { kind_of (call_data result) ≡ Change → ⊥ }
 {
     Call::Join {
         front,
         key,
-        value,
+        value: &BYTES[..(more % 90) as usize],
         cas,
     }
 }
 
 /// An Increment or a Decrement.
-fn count<'a>(down: bool, key: &'a [u8], more: u32, expiration: u32, cas: u64) -> Call<'a>
+fn count<'a>(down: bool, key: &'a [u8], more: u32, cas: u64) -> Call<'a>
     requires { IsKey key.now }
     ensures within { IsWithin (call_data result) }
-    ensures keyed { has_key (call_data result) ≡ true }
+    ensures given { kind_of (call_data result) ≡ Change → ⊥ }
 {
     Call::Count {
         down,
         key,
-        delta: u64::from(more % 50),
+        delta: u64::from(more / 4 % 50),
         initial: 7,
-        expiration,
+        expiration: if more % 4 == 0 { u32::MAX } else { 0 },
         cas,
     }
 }
 
 /// A Set, Add or Replace.
-fn store<'a>(kind: StoreKind, key: &'a [u8], value: &'a [u8], expiration: u32, cas: u64) -> Call<'a>
-    requires key { IsKey key.now }
-    requires value { IsValue value.now }
+fn store<'a>(kind: StoreKind, key: &'a [u8], more: u32, expiration: u32, cas: u64) -> Call<'a>
+    requires { IsKey key.now }
     ensures within { IsWithin (call_data result) }
-    ensures keyed { has_key (call_data result) ≡ true }
+    ensures given { kind_of (call_data result) ≡ Change → ⊥ }
 {
     Call::Store {
         kind,
         key,
-        value,
+        value: value_of(more),
         flags: 0x1234_5678,
         expiration,
         cas,
     }
 }
 
-/// Whether so many steps go alike, some of which wait for the store and some of which are refused for a time.
-fn go_alike(both: &mut Both) -> bool {
+/// Whether so many steps go alike.
+fn go_alike(both: &mut Both) -> bool
+    requires { IsUnderway both.old.served.config both.old.served.faults both.old.served.world }
+{
     let mut seed = 11;
-    for number in 0..3000u64 {
+    for number in 0..4000u64 {
         // a third of a second apart
         let now = MOMENT.wrapping_add(number.wrapping_mul(333_333_333));
         if now >= 1 << 62 {
@@ -358,26 +551,54 @@ fn go_alike(both: &mut Both) -> bool {
             return false;
         }
     }
-    both.fetches > 100 && both.refusals > 10
+    true
 }
 
-/// Whether they do so on new parts under this eviction.
+/// Whether they do so on a new vBucket under this eviction, some of which wait for the store and some of which are refused for
+/// a time, and each event is noted once.
 fn meets(alloc: Global, eviction: Eviction) -> bool {
-    let Some(held) = open_parts(alloc, eviction, BLOCKS, 4096) else {
+    let config = config(eviction, BLOCKS, 4096);
+    if config.fault().is_some() {
+        return false;
+    }
+    let Some(world) = opened(alloc, &config) else {
         return false;
     };
-    let Ok(wanted) = Out::new(alloc, 1_048_576) else {
+    let (Ok(value), Ok(wanted)) = (Out::new(alloc, 1_048_576), Out::new(alloc, 1_048_576)) else {
         return false;
     };
     let mut both = Both {
-        held,
-        plain: Plain::new(alloc),
-        wanted,
+        served: Served {
+            world,
+            config,
+            value,
+            faults: 0,
+        },
+        oracle: Oracle {
+            plain: Plain::new(alloc),
+            value: wanted,
+        },
         stored: [None; 8],
-        fetches: 0,
-        refusals: 0,
+        persisted: 0,
+        has_failed: false,
+        counts: Counts {
+            answers: 0,
+            fetches: 0,
+            refusals: 0,
+            events: 1,
+        },
     };
-    go_alike(&mut both)
+    if !go_alike(&mut both) {
+        return false;
+    }
+    let Both { served, counts, .. } = both;
+    let Served { world, faults, .. } = served;
+    let events = world.into_history().count() as u64;
+    events == counts.events
+        && counts.answers > 2000
+        && counts.fetches > 100
+        && counts.refusals > 10
+        && faults > 10
 }
 
 #[test]

@@ -1,9 +1,12 @@
 // A vBucket's only stripe and its queue, held in one hand.
-ghost use Rattle.std.specs.Prelude.{◌≡◌, ◌+◌, ◌≤◌, length, Some};
+ghost use Rattle.std.specs.Prelude.{◌≡◌, ◌+◌, ◌≤◌, false, length, Some};
+ghost use Rattle.ep_model.specs.declared.data.FrontData.{FrontData};
 ghost use Rattle.ep_model.specs.Calls.{written_key};
+ghost use Rattle.ep_model.specs.Front.{world_of};
 ghost use Rattle.ep_model.specs.History.{call_data};
 ghost use Rattle.ep_model.specs.Limits.{IsKey, IsMoment, IsValue, IsWithin};
 ghost use Rattle.vb_front.specs.Priors.{key_in};
+ghost use Rattle.vb_front.specs.Stands.{TableStands};
 
 use super::config;
 use crate::{Step, StripePart, read, write};
@@ -89,7 +92,7 @@ fn write_on(
 
 /// Puts a stored document back on the only stripe of a vBucket. It answers whether there was room, and nothing where memory
 /// doesn't lack the document.
-fn restore_on(table: &mut Stripe, key: &[u8], meta: Meta, value: &[u8]) -> Option<bool>
+pub fn restore_on(table: &mut Stripe, key: &[u8], meta: Meta, value: &[u8]) -> Option<bool>
     requires only { table.old.stripes ≡ 1 }
     requires first { table.old.index ≡ 0 }
     requires key { IsKey key.now }
@@ -97,7 +100,11 @@ fn restore_on(table: &mut Stripe, key: &[u8], meta: Meta, value: &[u8]) -> Optio
     requires len { meta.len ≡ length value.now }
     ensures only { table.new.stripes ≡ 1 }
     ensures first { table.new.index ≡ 0 }
+    ensures stands { (f : FrontData) → (world_of f).told ≡ false → TableStands f 0 table.old
+        → TableStands f 0 table.new }
 {
+    // what is so of every stripe is known here by this call
+    let _free = table.free();
     match table.find(key) {
         Found::Nothing => {}
         Found::Ejected(found) => {

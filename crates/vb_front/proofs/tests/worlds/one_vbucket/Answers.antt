@@ -1,9 +1,15 @@
 use Rattle.std.proofs.Common.{ap, ◌∙◌}
 use Rattle.vb_world.specs.declared.data.WorldData.{WorldData}
-use Rattle.vb_world.specs.World.{has_out}
+use Rattle.vb_world.specs.World.{front_in, has_out}
 use Rattle.vb_world.proofs.PlaceLemmas.{out_pushed, out_nowhere}
+use Rattle.vb_world.proofs.SoundLemmas.{front_pushed}
 use Rattle.vb_front.specs.declared.part.Part.{Part}
-use Rattle.vb_front.proofs.tests.at_stage.one_vbucket.Goals as goal
+use Rattle.vb_front.proofs.tests.worlds.one_vbucket.Goals as goal
+
+pub returns-clause-bare : goal.returns-clause-bare
+returns-clause-bare c =
+    let front = λ (w : WorldData Part). front_in w 0 in
+    ap front c.in_ok-add.ensures.ok ∙ front_pushed c.in_ok-world.world c.in_ok-empty_parts.field-0.items 0 ∙ ap front c.in_ok-world.ensures.new
 
 pub returns-clause-home : goal.returns-clause-home
 returns-clause-home c = λ caller part.

@@ -1,0 +1,37 @@
+-- What the tests know of a vBucket that opened over a store of which nothing is known. Whoever puts a document back there is
+-- asked for no proof that it is the one.
+use Rattle.std.specs.Prelude.{◌≡◌, ℕ, false, [], Some}
+use Rattle.std.specs.List.{AllByRecursion}
+use Rattle.ep_model.specs.declared.config.Config.{Config}
+use Rattle.ep_model.specs.declared.data.FrontData.{FrontData}
+use Rattle.ep_model.specs.declared.data.StartData.{StartData}
+use Rattle.ep_model.specs.declared.event.PartName.{PartName}
+use Rattle.vb_world.specs.declared.data.WorldData.{WorldData}
+use Rattle.vb_world.specs.World.{front_in, has_out}
+use Rattle.hold_stage.specs.Waits.{IsFaultWithin}
+use Rattle.vb_front.specs.declared.part.Part.{Part}
+
+-- a start of which nothing but its numbers is known
+abbrev pub unknown_start : StartData
+unknown_start = record { told = false; docs = []; high = 0; maxcas = 0; failovers = [] }
+
+-- The vBucket 0 of a world of this layout, which has one stripe, has begun, and the caller 7 holds none of its parts.
+pub record IsOpened (config : Config) (world : WorldData Part) : Type 0 where
+  pub only : config.stripes ≡ 1
+  pub layout : world.config ≡ config
+  pub free : (p : PartName) → has_out world 0 7 p ≡ false
+  pub start : (front_in world 0).start ≡ Some unknown_start
+
+-- no failed read was noted, or one of a number up to this one
+abbrev pub AreWithin : ℕ → FrontData → Type 0
+AreWithin faults f = AllByRecursion (IsFaultWithin faults) f.events
+
+-- Behind the same start more was noted, or nothing, and no failed read.
+pub record IsLater (f g : FrontData) : Type 0 where
+  pub start : g.start ≡ f.start
+  pub faults : (n : ℕ) → AreWithin n f → AreWithin n g
+
+-- And so many reads failed at most.
+pub record IsUnderway (config : Config) (faults : ℕ) (world : WorldData Part) : Type 0 where
+  pub opened : IsOpened config world
+  pub faults_within : AreWithin faults (front_in world 0)
