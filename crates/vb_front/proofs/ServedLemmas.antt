@@ -23,19 +23,19 @@ use Rattle.vb_front.specs.declared.part.Part.{Part}
 use Rattle.vb_front.specs.declared.step.Step.{Step}
 use Rattle.vb_front.specs.declared.step.Step.TheVariants as steps
 use Rattle.hold_stage.specs.Waits.{IsFaultWithin}
-use Rattle.vb_front.specs.Opened.{unknown_start, AreWithin, IsLater, IsOpened, IsUnderway}
+use Rattle.vb_front.specs.Opened.{unknown_start, FaultsAreWithin, IsLater, IsOpened, IsUnderway}
 use Rattle.hold_stage.specs.Priors.{is_prior, PriorsStand, PriorStands}
 use Rattle.vb_front.specs.Tries.{event_by, tried_by}
 use Rattle.vb_front.proofs.AskLemmas.{ticket_is}
 use Rattle.vb_front.proofs.OpenedLemmas.{untold}
 
 pub later_same : (f g : FrontData) → g ≡ f → IsLater f g
-later_same f g is = record { start = ap (λ (h : FrontData). h.start) is; faults = λ n h. subst (λ (k : FrontData). AreWithin n k) (sym is) h }
+later_same f g is = record { start = ap (λ (h : FrontData). h.start) is; faults = λ n h. subst (λ (k : FrontData). FaultsAreWithin n k) (sym is) h }
 
 pub later_noted : (f g : FrontData) (event : EventData) → ((n : ℕ) → IsFaultWithin n event) → g ≡ with_event f event → IsLater f g
 later_noted f g event none is = record {
   start = ap (λ (h : FrontData). h.start) is;
-  faults = λ n h. subst (λ (k : FrontData). AreWithin n k) (sym is) (all_append (IsFaultWithin n) f.events (event ∷ []) h (none n, tt));
+  faults = λ n h. subst (λ (k : FrontData). FaultsAreWithin n k) (sym is) (all_append (IsFaultWithin n) f.events (event ∷ []) h (none n, tt));
 }
 
 -- a call
@@ -168,7 +168,7 @@ pub underway_later : (before config : Config) (had faults : ℕ) (w u v : WorldD
     → IsUnderway config faults v
 underway_later before config had faults w u v h same front opened later = record {
   opened = opened;
-  faults_within = later.faults faults (subst (λ (f : FrontData). AreWithin faults f) (sym front) (subst (λ n. AreWithin n (front_in w 0)) (sym same) h.faults_within));
+  faults_within = later.faults faults (subst (λ (f : FrontData). FaultsAreWithin faults f) (sym front) (subst (λ n. FaultsAreWithin n (front_in w 0)) (sym same) h.faults_within));
 }
 
 -- And behind a call.
@@ -184,13 +184,13 @@ has_asked f caller call ticket h = record { before = h.before; later = h.later; 
 pub next_fault : (before : Config) (had faults : ℕ) (w u : WorldData Part) → IsUnderway before had w → faults ≡ had → front_in u 0 ≡ front_in w 0 → AllByRecursion (IsNoFault (faults + 1)) (front_in u 0).events
 next_fault before had faults w u h same front =
     fresh_faults faults (faults + 1) (front_in u 0).events (omega arith)
-    (subst (λ (f : FrontData). AreWithin faults f) (sym front) (subst (λ n. AreWithin n (front_in w 0)) (sym same) h.faults_within))
+    (subst (λ (f : FrontData). FaultsAreWithin faults f) (sym front) (subst (λ n. FaultsAreWithin n (front_in w 0)) (sym same) h.faults_within))
 
 pub underway_failed : (before config : Config) (had faults : ℕ) (w u v : WorldData Part) → IsUnderway before had w → faults ≡ had → front_in u 0 ≡ front_in w 0 → IsOpened config v
-    → ((n : ℕ) → 1 ≤ faults + 1 → faults + 1 ≤ n → AreWithin n (front_in u 0) → AreWithin n (front_in v 0)) → IsUnderway config (faults + 1) v
+    → ((n : ℕ) → 1 ≤ faults + 1 → faults + 1 ≤ n → FaultsAreWithin n (front_in u 0) → FaultsAreWithin n (front_in v 0)) → IsUnderway config (faults + 1) v
 underway_failed before config had faults w u v h same front opened more = record {
   opened = opened;
   faults_within = more (faults + 1) (omega arith) (omega arith)
       (all_within_more faults (faults + 1) (front_in u 0).events (omega arith)
-      (subst (λ (f : FrontData). AreWithin faults f) (sym front) (subst (λ n. AreWithin n (front_in w 0)) (sym same) h.faults_within)));
+      (subst (λ (f : FrontData). FaultsAreWithin faults f) (sym front) (subst (λ n. FaultsAreWithin n (front_in w 0)) (sym same) h.faults_within)));
 }

@@ -23,15 +23,15 @@ pub record IsOpened (config : Config) (world : WorldData Part) : Type 0 where
   pub start : (front_in world 0).start ≡ Some unknown_start
 
 -- no failed read was noted, or one of a number up to this one
-abbrev pub AreWithin : ℕ → FrontData → Type 0
-AreWithin faults f = AllByRecursion (IsFaultWithin faults) f.events
+abbrev pub FaultsAreWithin : ℕ → FrontData → Type 0
+FaultsAreWithin faults f = AllByRecursion (IsFaultWithin faults) f.events
 
 -- Behind the same start more was noted, or nothing, and no failed read.
 pub record IsLater (f g : FrontData) : Type 0 where
   pub start : g.start ≡ f.start
-  pub faults : (n : ℕ) → AreWithin n f → AreWithin n g
+  pub faults : (n : ℕ) → FaultsAreWithin n f → FaultsAreWithin n g
 
 -- And so many reads failed at most.
 pub record IsUnderway (config : Config) (faults : ℕ) (world : WorldData Part) : Type 0 where
   pub opened : IsOpened config world
-  pub faults_within : AreWithin faults (front_in world 0)
+  pub faults_within : FaultsAreWithin faults (front_in world 0)

@@ -174,7 +174,7 @@ pub record ReadIsExact (old : StripePart) (key : List ℕ) (prior : Option Ticke
   pub comes : ReadComesTo old key prior r.step r.part.book
   pub freed : IsFreed old prior r.step r.part.book
 
--- Where documents are known, a Get that is answered had room. So where there is none it isn't answered, and it is refused for
+-- Where documents are known and the vBucket serves, a Get that is answered had room. So where there is none it isn't answered, and it is refused for
 -- want of room only there, as `ReadIsLegal` says.
 abbrev pub AnsweredGetHasRoom : StripePart → List ℕ → ℕ → Option Ticket → Read → Type 0
 AnsweredGetHasRoom old key now prior r =

@@ -1,4 +1,4 @@
--- What a stripe does, and which events it then stands behind. Whoever holds a stripe and notes an event does one of these.
+-- What a stripe does, and which events it then stands behind. A call that holds a stripe does one of these.
 use Rattle.std.specs.Prelude.{◌≡◌, ℕ, ◌+◌, true, List, [], Option, Some}
 use Rattle.ep_model.specs.declared.call.Reply.{Reply}
 use Rattle.ep_model.specs.declared.event.Cause.{Cause}

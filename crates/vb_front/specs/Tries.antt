@@ -67,7 +67,8 @@ abbrev pub passed_by : ℕ → Result Step Busy → Option (List Point) → Opti
 passed_by stripe (Ok step) passed = with_point (InStripe stripe) passed
 passed_by stripe (Err busy) passed = passed
 
--- When a Get comes to which step on this part, and that where documents are known it had room if it was answered.
+-- When a Get comes to which step on this part, and that where documents are known and the vBucket serves it had room if it
+-- was answered.
 unfoldable pub IsExactlyRead : StripePart → Option Ticket → List ℕ → ℕ → Type 0
 IsExactlyRead part prior key now =
     ReadIsExact part key prior (read_step part prior key now) × AnsweredGetHasRoom part key now prior (read_step part prior key now)
@@ -145,7 +146,8 @@ pub record ControlsFrom (f : FrontData) (old new : Option Part) (id : ℕ) (call
   pub value_is : value ≡ (control_step queue id call).value
   pub behind : new ≡ Some (parts.Queue queue)
 
--- When it comes to which step on these parts, and that where documents are known it had room if it was answered.
+-- When it comes to which step on these parts, and that where documents are known and the vBucket serves it had room if it
+-- was answered.
 unfoldable pub IsExactly : StripePart → QueueData → Option Ticket → CallData → ℕ → Type 0
 IsExactly part queue prior call now =
     WriteIsExact part queue call (key_in call) now prior (write_step part queue prior call (key_in call) now)

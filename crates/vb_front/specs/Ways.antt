@@ -61,8 +61,8 @@ abbrev pub RoomLacksForOne : Type 0
 RoomLacksForOne = (part : StripePart) (q : QueueData) (call : CallData) (key : List ℕ) (now : ℕ) (prior : Option Ticket)
     → IsWithoutRoomFor part q call key prior → PutsWithoutRoom part q call key now prior → ⊥
 
--- Of a call that lacks nothing, want of room comes exactly where the history has none, where documents are known. That is so of
--- whatever has the clauses of `write`. A call that lacks what it needs comes to Quota only there, and isn't answered there.
+-- Of a call that lacks nothing, want of room comes exactly where the history has none, where documents are known and the
+-- vBucket serves. That is so of whatever has the clauses of `write`. A call that lacks what it needs comes to Quota only there, and isn't answered there.
 abbrev pub QuotaIsWantOfRoom : Type 0
 QuotaIsWantOfRoom = (part new : StripePart) (q after : QueueData) (call : CallData) (key : List ℕ) (now : ℕ) (prior : Option Ticket)
     → (w : Write) → WriteIsExact part q call key now prior w → AnsweredHasRoom part q call key now prior w

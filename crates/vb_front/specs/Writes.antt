@@ -235,7 +235,7 @@ WriteIsLegal old q call key now prior w new after =
     (f : FrontData) (stripe caller : ℕ) → IsLegal f → StripeStands f stripe old → QueueStands f q → PriorsStand f caller call prior
     → IsNext f (event_of caller call now prior w.step w.value) (λ g. StripeStands g stripe new × QueueStands g after)
 
--- Where documents are known, a call that is answered had room. So where there is none it isn't answered, and it is refused for
+-- Where documents are known and the vBucket serves, a call that is answered had room. So where there is none it isn't answered, and it is refused for
 -- want of room only there, as `WriteIsLegal` says: exactly there, where memory has what it needs (`QuotaIsWantOfRoom`).
 abbrev pub AnsweredHasRoom : StripePart → QueueData → CallData → List ℕ → ℕ → Option Ticket → Write → Type 0
 AnsweredHasRoom old q call key now prior w =

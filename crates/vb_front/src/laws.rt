@@ -33,8 +33,8 @@ pub fn reads_come_to_one_step()
     ensures waits { WaitingReadsAskNothing }
 {}
 
-/// Nor do two meet of a call that may put a document, and it lacks room for one reason. Where it lacks nothing else, want of
-/// room comes exactly where the history has none.
+/// Nor do two meet of a call that may put a document, and it lacks room for one reason. Where documents are
+/// known and the vBucket serves, one that lacks nothing else is refused for want of room exactly where the history has none.
 pub fn writes_come_to_one_step()
     ensures apart { WriteStepsAreApart }
     ensures follows { WriteFollowsItsCondition }

@@ -8,7 +8,7 @@ ghost use Rattle.ep_model.specs.History.{call_data};
 ghost use Rattle.ep_model.specs.Legal.{HasAsked, IsNoFault};
 ghost use Rattle.ep_model.specs.Limits.{IsKey, IsMoment, IsValue, IsWithin, max_value};
 ghost use Rattle.vb_world.specs.World.{front_in};
-ghost use Rattle.vb_front.specs.Opened.{AreWithin, IsLater, IsOpened};
+ghost use Rattle.vb_front.specs.Opened.{FaultsAreWithin, IsLater, IsOpened};
 ghost use Rattle.hold_stage.specs.Priors.{PriorsStand, PriorStands};
 ghost use Rattle.vb_front.specs.Tries.{kind_of};
 ghost use Rattle.vb_front.specs.declared.at_stage.Kind.TheVariants.{Change};
@@ -33,7 +33,7 @@ pub fn opened(alloc: Global, config: &Config) -> Option<World<Part>>
     requires fault { config_fault config.now ≡ None }
     requires only { config.now.stripes ≡ 1 }
     ensures opened { IfSome result (IsOpened config.now) }
-    ensures faults { IfSome result (λ w. AreWithin 0 (front_in w 0)) }
+    ensures faults { IfSome result (λ w. FaultsAreWithin 0 (front_in w 0)) }
 {
     let Ok(mut world) = one_vbucket(alloc, config) else {
         return None;
@@ -180,7 +180,7 @@ pub fn fail(world: &mut World<Part>, config: &Config, ticket: Ticket, fault: u64
     requires once { AllByRecursion (IsNoFault fault) (front_in world.old 0).events }
     ensures opened { result ≡ true → IsOpened config.now world.new }
     ensures faults { result ≡ true → (n : ℕ) → 1 ≤ fault → fault ≤ n
-        → AreWithin n (front_in world.old 0) → AreWithin n (front_in world.new 0) }
+        → FaultsAreWithin n (front_in world.old 0) → FaultsAreWithin n (front_in world.new 0) }
     ensures priors { result ≡ true → (call : CallData)
         → PriorStands (front_in world.old 0) 7 call ticket
         → PriorStands (front_in world.new 0) 7 call ticket }
