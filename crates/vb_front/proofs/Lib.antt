@@ -26,6 +26,7 @@ pub mod WriteExactLemmas
 pub mod WayLemmas
 pub mod StripeLemmas
 pub mod TryLemmas
+pub mod TriedRoomLemmas
 pub mod BareLemmas
 pub mod WorldLemmas
 pub mod OpenedLemmas

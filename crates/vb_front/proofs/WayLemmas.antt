@@ -15,7 +15,7 @@ use Rattle.ep_model.specs.Refusals.{state_refusal}
 use Rattle.ep_model.specs.Calls.{key_of}
 use Rattle.ep_model.specs.Front.{world_of}
 use Rattle.ep_model.specs.Quota.{is_short}
-use Rattle.ep_model.specs.Legal.{IsQuotaCause, May}
+use Rattle.ep_model.specs.Legal.{IsQuotaCause, IsServing, IsLegal, May}
 use Rattle.hash_stripe.specs.Nodes.{Slot, node_at, others_pinned}
 use Rattle.hash_stripe.specs.Stripes.{StripeData}
 use Rattle.fetch_book.specs.declared.place.Outcome.{Outcome}
@@ -31,8 +31,9 @@ use Rattle.vb_front.specs.Stands.{StripeStands, QueueStands}
 use Rattle.vb_front.specs.Priors.{event_of, IsNext}
 use Rattle.vb_front.specs.Waits.{Memory, Known, Away, value_memory, slot_memory, memory_of, prior_outcome, waited_at, waited_for, waited, release, ask_step}
 use Rattle.vb_front.specs.Reads.{HasPlaceWith, IsUnserved, IsAwayFrom, NeedsAway, IsDone, ReadComesTo, read_refused, read_waits, read_memory, read_active, read_step}
-use Rattle.vb_front.specs.Writes.{write_crowded, write_waits, write_step}
-use Rattle.vb_front.specs.WriteSteps.{LacksDoc, NeedsNoMore, PutsWithoutRoom, IsWithoutRoomFor, Waits, Asks, WriteComesTo}
+use Rattle.vb_front.specs.Writes.{Write, write_crowded, write_waits, write_step, AnsweredHasRoom}
+use Rattle.hold_stage.specs.Priors.{PriorsStand}
+use Rattle.vb_front.specs.WriteSteps.{LacksDoc, NeedsNoMore, PutsWithoutRoom, IsWithoutRoomFor, WriteComesTo}
 use Rattle.vb_front.specs.Ways.{way_of, ReadStepsAreApart, ReadFollowsItsCondition, WaitingReadsAskNothing, WriteStepsAreApart, WriteFollowsItsCondition, WaitingWritesAskNothing, RoomLacksForOne, QuotaIsWantOfRoom}
 use Rattle.vb_front.proofs.ReadLemmas.{active_is}
 use Rattle.vb_front.proofs.ExactLemmas.{away_from}
@@ -270,26 +271,32 @@ pub room_lacks_for_one : RoomLacksForOne
 room_lacks_for_one part q call key now prior old room = crowded_serves part q call key now prior old (room.served old.lacks)
 
 -- what is refused for want of room has none in the history
-quota_short : (f : FrontData) (caller : ℕ) (call : CallData) (key : List ℕ) (now : ℕ) (after : FrontData → Type 0) → key_of call ≡ Some key → (world_of f).told ≡ true
-    → IsNext f (Some (events.Refused caller call now causes.Quota)) after → is_short f key call now ≡ true
+pub quota_wants_room : (f : FrontData) (caller : ℕ) (call : CallData) (key : List ℕ) (now : ℕ) → key_of call ≡ Some key → (world_of f).told ≡ true
+    → May f (events.Refused caller call now causes.Quota) → is_short f key call now ≡ true
 unfolding May
-quota_short f caller call key now after keyed told next =
-    let cause : IsQuotaCause f call now = next.0 in
+quota_wants_room f caller call key now keyed told may =
+    let cause : IsQuotaCause f call now = may in
     let same : cause.key ≡ key = (let e : Some cause.key ≡ Some key = sym cause.keyed ∙ keyed in cc) in
     subst (λ (k : List ℕ). is_short f k call now ≡ true) same (cause.short told)
 
+-- what lacks nothing but room is refused for it
+pub want_is_quota : (part : StripePart) (q : QueueData) (call : CallData) (key : List ℕ) (now : ℕ) (prior : Option Ticket) (w : Write) → WriteComesTo part q call key now prior w.step w.book
+    → AnsweredHasRoom part q call key now prior w → (f : FrontData) (stripe caller : ℕ) → IsLegal f → StripeStands f stripe part → QueueStands f q → PriorsStand f caller call prior
+    → (world_of f).told ≡ true → IsServing (world_of f) → (LacksDoc part call key → ⊥) → is_short f key call now ≡ true → w.step ≡ steps.Refused causes.Quota
+want_is_quota part q call key now prior w comes fits f stripe caller legal s u priors told serving nothing short = at w.step refl comes
+  where
+    at : (step : Step) → w.step ≡ step → WriteComesTo part q call key now prior step w.book → w.step ≡ steps.Refused causes.Quota
+    at (steps.Done reply) is c = absurd (let e = fits f stripe caller reply legal s u priors told serving is in cc)
+    at (steps.Refused causes.Warming) is c = absurd (let e = s.table.opened in let o = serving.opened in cc)
+    at (steps.Refused causes.Quota) is c = is
+    at (steps.Refused (causes.Store ticket)) is c = absurd (nothing c.lacks)
+    at (steps.Refused (causes.Memory ticket)) is c = absurd (nothing c.lacks)
+    at (steps.Fetch ticket) is c = elim c as (λ _. w.step ≡ steps.Refused causes.Quota) [ inl on ↦ absurd (nothing on.lacks) | inr anew ↦ absurd (nothing anew.lacks) ]
+    at steps.FetchFull is c = absurd (nothing c.lacks)
+
 pub quota_is_want_of_room : QuotaIsWantOfRoom
 quota_is_want_of_room part new q after call key now prior w exact fits legal f stripe caller is_legal s u priors told serving keyed nothing = (
-  λ is. quota_short f caller call key now (λ g. StripeStands g stripe new × QueueStands g after) keyed told
-      (subst (λ (t : Step). IsNext f (event_of caller call now prior t w.value) (λ g. StripeStands g stripe new × QueueStands g after)) is (legal f stripe caller is_legal s u priors)),
-  λ short. at short w.step refl exact.comes,
+  λ is. quota_wants_room f caller call key now keyed told
+      (subst (λ (t : Step). IsNext f (event_of caller call now prior t w.value) (λ g. StripeStands g stripe new × QueueStands g after)) is (legal f stripe caller is_legal s u priors)).0,
+  want_is_quota part q call key now prior w exact.comes fits f stripe caller is_legal s u priors told serving nothing,
 )
-  where
-    at : is_short f key call now ≡ true → (step : Step) → w.step ≡ step → WriteComesTo part q call key now prior step w.book → w.step ≡ steps.Refused causes.Quota
-    at short (steps.Done reply) is c = absurd (let e = fits f stripe caller reply is_legal s u priors told serving is in cc)
-    at short (steps.Refused causes.Warming) is c = absurd (let e = s.table.opened in let o = serving.opened in cc)
-    at short (steps.Refused causes.Quota) is c = is
-    at short (steps.Refused (causes.Store ticket)) is c = absurd (nothing c.lacks)
-    at short (steps.Refused (causes.Memory ticket)) is c = absurd (nothing c.lacks)
-    at short (steps.Fetch ticket) is c = elim c as (λ _. w.step ≡ steps.Refused causes.Quota) [ inl on ↦ absurd (nothing on.lacks) | inr anew ↦ absurd (nothing anew.lacks) ]
-    at short steps.FetchFull is c = absurd (nothing c.lacks)

@@ -1,6 +1,8 @@
--- That no two of the conditions meet under which a call on held parts comes to a step.
-use Rattle.std.specs.Prelude.{◌≡◌, ℕ, true, List, Option, Some, None}
+-- That no two of the conditions meet under which a call on held parts comes to a step, and where want of room is one.
+use Rattle.std.specs.Prelude.{◌≡◌, ℕ, Bool, true, false, List, Option, Some, None}
+use Rattle.ep_model.specs.declared.call.Reply.{Reply}
 use Rattle.ep_model.specs.declared.event.Cause.TheVariants as causes
+use Rattle.ep_model.specs.declared.event.PartName.{PartName}
 use Rattle.ep_model.specs.declared.event.Ticket.{Ticket}
 use Rattle.ep_model.specs.declared.data.CallData.{CallData}
 use Rattle.ep_model.specs.declared.data.FrontData.{FrontData}
@@ -14,9 +16,11 @@ use Rattle.vb_front.specs.declared.part.StripePart.{StripePart}
 use Rattle.vb_front.specs.declared.step.Step.{Step}
 use Rattle.vb_front.specs.declared.step.Step.TheVariants as steps
 use Rattle.vb_front.specs.Stands.{StripeStands, QueueStands}
+use Rattle.vb_front.specs.Priors.{key_in}
 use Rattle.hold_stage.specs.Priors.{PriorsStand}
 use Rattle.vb_front.specs.Reads.{read_step, ReadComesTo, WaitsOn, AsksAnew}
 use Rattle.vb_front.specs.Writes.{Write, write_step, WriteIsLegal, AnsweredHasRoom}
+use Rattle.vb_front.specs.Tries.{Writes}
 use Rattle.vb_front.specs.WriteSteps.{LacksDoc, WriteComesTo, WriteIsExact, PutsWithoutRoom, IsWithoutRoomFor, Waits, Asks}
 
 -- which step it is, with its cause and its ticket, and none where it is answered, whatever the reply
@@ -71,3 +75,19 @@ QuotaIsWantOfRoom = (part new : StripePart) (q after : QueueData) (call : CallDa
     → IsServing (world_of f) → key_of call ≡ Some key → (LacksDoc part call key → ⊥)
     → (w.step ≡ steps.Refused causes.Quota → is_short f key call now ≡ true)
     × (is_short f key call now ≡ true → w.step ≡ steps.Refused causes.Quota)
+
+-- What want of room is to a call at a stage that may put a document, over the history as it was right before its event, where
+-- documents are known.
+-- `refused`: the call comes to Quota only where there is no room;
+-- `answered`: where the vBucket serves, one that is answered had room;
+-- `lacking`: and one that lacks nothing else comes to Quota where there is none.
+pub record RoomDecides (f : FrontData) (part : StripePart) (call : CallData) (key : List ℕ) (now : ℕ) (step : Step) : Type 0 where
+  pub refused : step ≡ steps.Refused causes.Quota → is_short f key call now ≡ true
+  pub answered : IsServing (world_of f) → (reply : Reply) → step ≡ steps.Done reply → is_short f key call now ≡ false
+  pub lacking : IsServing (world_of f) → (LacksDoc part call key → ⊥) → is_short f key call now ≡ true → step ≡ steps.Refused causes.Quota
+
+abbrev pub TriedQuotaIsWantOfRoom : Type 0
+TriedQuotaIsWantOfRoom = (f g : FrontData) (held : PartName → Bool) (caller : ℕ) (desk : Bool) (stripe : ℕ) (prior : Option Ticket) (call : CallData)
+    → (now : ℕ) (value : List ℕ) (step : Step) → (w : Writes f g held caller desk stripe prior call now value step)
+    → PriorsStand f caller call prior → (world_of w.behind.between).told ≡ true → key_of call ≡ Some (key_in call)
+    → RoomDecides w.behind.between w.part call (key_in call) now step

@@ -4,7 +4,7 @@ ghost use Rattle.vb_front.specs.Laws.{EmptyStripesStand, EmptyQueuesStand, Desks
 ghost use Rattle.vb_front.specs.Laws.{BatchesStandAbove, DesksStore, DesksFail};
 ghost use Rattle.vb_front.specs.Ways.{ReadStepsAreApart, ReadFollowsItsCondition, WaitingReadsAskNothing};
 ghost use Rattle.vb_front.specs.Ways.{WriteStepsAreApart, WriteFollowsItsCondition, WaitingWritesAskNothing};
-ghost use Rattle.vb_front.specs.Ways.{RoomLacksForOne, QuotaIsWantOfRoom};
+ghost use Rattle.vb_front.specs.Ways.{RoomLacksForOne, QuotaIsWantOfRoom, TriedQuotaIsWantOfRoom};
 
 /// Parts that have nothing stand for a history in which nothing happened, before a start is put and behind any start.
 pub fn empty_parts_stand()
@@ -41,4 +41,11 @@ pub fn writes_come_to_one_step()
     ensures waits { WaitingWritesAskNothing }
     ensures room { RoomLacksForOne }
     ensures quota { QuotaIsWantOfRoom }
+{}
+
+/// What is so of a call at a stage that may put a document, over the history right before its event, where documents are known
+/// and the vBucket serves: one that is answered had room, and it is refused for want of room only where there is none, exactly
+/// there where it lacks nothing else.
+pub fn tried_writes_are_refused_where_there_is_no_room()
+    ensures { TriedQuotaIsWantOfRoom }
 {}
