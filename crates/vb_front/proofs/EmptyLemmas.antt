@@ -1,4 +1,4 @@
--- Parts that have nothing stand for a history in which nothing happened.
+-- Parts that have nothing, and a new desk, stand for a history in which nothing happened.
 use Rattle.std.proofs.Common.{◌≡◌, ℕ, ◌+◌, List, refl, sym, ap, ◌∙◌, arith, zero, suc}
 use Rattle.std.specs.Prelude.{Some, None, replicate}
 use Rattle.std.specs.List.{position_from}
@@ -6,7 +6,7 @@ use Rattle.std.proofs.lemmas.Bool.Decides.{nat_tests}
 use Rattle.std.proofs.lemmas.List.{length-replicate}
 use Rattle.ep_model.specs.Checkpoints.{cut}
 use Rattle.hash_stripe.specs.Nodes.{NodeData, is_keyed, node_in, node_at}
-use Rattle.vb_front.specs.Laws.{EmptyStripesStand, EmptyQueuesStand}
+use Rattle.vb_front.specs.Laws.{EmptyStripesStand, EmptyQueuesStand, NewDesksStand}
 
 no_slot : (key : List ℕ) (n from : ℕ) → position_from (is_keyed key) from (replicate n None) ≡ None
 no_slot key zero from = refl
@@ -57,4 +57,15 @@ empty_queues_stand config id start = record {
   passed = tt;
   closed = tt;
   last = tt;
+}
+
+pub new_desks_stand : NewDesksStand
+new_desks_stand config id keeper sure = record {
+  noted = refl;
+  low = omega arith;
+  sure = sure;
+  top = λ some. absurd (cc);
+  doubt = λ some. absurd (cc);
+  faults = tt;
+  shown = λ some. absurd (cc);
 }

@@ -1,5 +1,5 @@
 -- What is true of all parts, desks and batches that stand for a history.
-use Rattle.std.specs.Prelude.{◌≡◌, ℕ, ◌<◌, ◌≤◌, false, replicate, [], Option, None}
+use Rattle.std.specs.Prelude.{◌≡◌, ℕ, ◌<◌, ◌≤◌, true, false, replicate, [], Option, None}
 use Rattle.ep_model.specs.declared.call.VbState.TheVariants.{Active}
 use Rattle.ep_model.specs.declared.config.Config.{Config}
 use Rattle.ep_model.specs.declared.data.CallData.{CallData}
@@ -15,6 +15,8 @@ use Rattle.ckpt_manager.specs.declared.data.QueueData.{QueueData}
 use Rattle.ckpt_manager.specs.Queue.{fresh, begun}
 use Rattle.kv_keeper.specs.declared.data.BatchData.{BatchData}
 use Rattle.kv_keeper.specs.declared.data.DeskData.{DeskData}
+use Rattle.kv_keeper.specs.Content.{KeeperData}
+use Rattle.kv_keeper.specs.Desk.{new_desk}
 use Rattle.vb_front.specs.declared.part.StripePart.{StripePart}
 use Rattle.vb_front.specs.Stands.{StripeStands, QueueStands}
 use Rattle.vb_front.specs.Desks.{DeskStands, BatchStands}
@@ -44,6 +46,11 @@ EmptyStripesStand = (config : Config) (id stripe : ℕ) (start : Option StartDat
 abbrev pub EmptyQueuesStand : Type 0
 EmptyQueuesStand = (config : Config) (id : ℕ) (start : Option StartData)
     → QueueStands (unbegun config id start) (empty_queue config (started start))
+
+-- A desk that was just made over a store of which no commit failed stands before a start is put, whatever that holds.
+abbrev pub NewDesksStand : Type 0
+NewDesksStand = (config : Config) (id : ℕ) (keeper : KeeperData) → keeper.sure ≡ true
+    → DeskStands (unbegun config id None) (new_desk keeper)
 
 -- A desk, and a batch that waits for its commit, stand on while others note events that aren't the desk's.
 abbrev pub DesksStandOn : Type 0

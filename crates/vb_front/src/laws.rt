@@ -1,15 +1,17 @@
 //! What is true of all parts, desks and batches that stand for a history, and of all steps of calls. Each function does
 //! nothing: its contract is the law.
 ghost use Rattle.vb_front.specs.Laws.{EmptyStripesStand, EmptyQueuesStand, DesksStandOn, BatchesStandOn, PriorsStandOn};
-ghost use Rattle.vb_front.specs.Laws.{BatchesStandAbove, DesksStore, DesksFail};
+ghost use Rattle.vb_front.specs.Laws.{NewDesksStand, BatchesStandAbove, DesksStore, DesksFail};
 ghost use Rattle.vb_front.specs.Ways.{ReadStepsAreApart, ReadFollowsItsCondition, WaitingReadsAskNothing};
 ghost use Rattle.vb_front.specs.Ways.{WriteStepsAreApart, WriteFollowsItsCondition, WaitingWritesAskNothing};
 ghost use Rattle.vb_front.specs.Ways.{RoomLacksForOne, QuotaIsWantOfRoom, TriedQuotaIsWantOfRoom};
 
-/// Parts that have nothing stand for a history in which nothing happened, before a start is put and behind any start.
+/// Parts that have nothing stand for a history in which nothing happened, before a start is put and behind any start. Before
+/// one is put so does a desk that was just made over a store of which no commit failed.
 pub fn empty_parts_stand()
     ensures stripes { EmptyStripesStand }
     ensures queues { EmptyQueuesStand }
+    ensures desks { NewDesksStand }
 {}
 
 /// A desk, a batch between its taking and its commit, and a call that asked stand on while others note events.
