@@ -84,8 +84,8 @@ QueuesAreRead = (f : FrontData) (q : QueueData) → QueueStands f q → QueueSta
 abbrev pub QueuesAreReadAgain : Type 0
 QueuesAreReadAgain = (f : FrontData) (q : QueueData) → QueueStands f q → QueueStands f (record q { cursor = q.persisted })
 
--- What a queue keeps with a document more is what the checkpoints keep with it, so that it has no room for the document
--- exactly where they have none.
+-- Where documents are known, what a queue keeps with the next mutation's document is what the checkpoints keep with it, so
+-- that it has no room for the document exactly where they have none.
 abbrev pub KeptIsMeasured : Type 0
 KeptIsMeasured = (f : FrontData) (q : QueueData) (key : List ℕ) (doc : Doc) → (world_of f).told ≡ true → doc.seqno ≡ (world_of f).high + 1 → QueueStands f q
     → kept_with q key (length doc.value) ≡ item_blocks (items_above (world_of f).persisted (cut_with f.config.ckpt_max (key, doc) (cut f)))
@@ -94,7 +94,8 @@ abbrev pub ShortIsOverfull : Type 0
 ShortIsOverfull = (f : FrontData) (q : QueueData) (key : List ℕ) (doc : Doc) → (world_of f).told ≡ true → doc.seqno ≡ (world_of f).high + 1 → QueueStands f q
     → is_overfull f (Some (key, doc)) ≡ nat_lt q.blocks (kept_with q key (length doc.value))
 
--- So a call for whose document the queue has no room may be refused for it.
+-- So a call on a key of a vBucket that serves may be refused where the queue has no room for its document. Where documents
+-- are known, it is the one that the call puts.
 abbrev pub ShortIsQuota : Type 0
 ShortIsQuota = (f : FrontData) (caller : ℕ) (call : CallData) (now : ℕ) (q : QueueData) (key : List ℕ) (meta : Meta) (value : List ℕ) → IsServing (world_of f) → key_of call ≡ Some key
     → ((world_of f).told ≡ true → (answer (world_of f) call now).effect ≡ Puts key (doc_from (item_of key meta value ((world_of f).high + 1)).meta value))

@@ -32,7 +32,8 @@ pub fn queues_are_flushed()
     ensures again { QueuesAreReadAgain }
 {}
 
-/// A queue has no room for a document exactly where the checkpoints have none, and a call may be refused there.
+/// Where documents are known, a queue has no room for the next mutation's document exactly where the checkpoints have none. A
+/// call on a key of a vBucket that serves may be refused where the queue has no room for its document.
 pub fn queues_measure_what_is_kept()
     ensures kept { KeptIsMeasured }
     ensures short { ShortIsOverfull }

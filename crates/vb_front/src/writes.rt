@@ -268,9 +268,10 @@ fn write_key(
 }
 
 /// Does a call that may put a document on the stripe of its key and the queue. `prior` is the ticket at which this call has
-/// asked before, if it has. The value of the answer goes into `value`, which is emptied first and in which the document's new
-/// value is made. Its cost is linear in the number of the stripe's slots, once more for each document that is ejected, in its
-/// places, in the items of the open checkpoint and those that go, and in the values.
+/// asked before, if it has. The value of the answer goes into `value`, which is emptied first. An old value that goes on, or is
+/// read as a number, is copied into it once, and a new number's text is made apart. Its cost is linear in the number of the
+/// stripe's slots, once more for each document that is ejected, in its places, in the items of the open checkpoint and those
+/// that go, and in the values.
 pub fn write(
     part: &mut StripePart,
     queue: &mut Queue,

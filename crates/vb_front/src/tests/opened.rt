@@ -119,7 +119,8 @@ pub fn open_at<S: Stage<Part = Part>>(stage: &mut S) -> bool
     true
 }
 
-/// Tells that all is stored, where less is known to be. It answers whether all parts were there.
+/// Tells that all is stored, where less is known to be. It answers whether all parts were there and the vBucket had opened.
+/// Where not, parts may be out.
 pub fn persist_at<S: Stage<Part = Part>>(stage: &mut S) -> bool
     requires only { (S.front stage.old).config.stripes ≡ 1 }
     requires telling { S.is_telling stage.old ≡ true }
@@ -148,7 +149,8 @@ pub fn persist_at<S: Stage<Part = Part>>(stage: &mut S) -> bool
     true
 }
 
-/// Tells the stripe what is stored, where it doesn't know. It answers whether all parts were there.
+/// Tells the stripe what is stored, where it doesn't know. It answers whether all parts were there and the vBucket had opened.
+/// Where not, parts may be out.
 pub fn mark_at<S: Stage<Part = Part>>(stage: &mut S) -> bool
     requires only { (S.front stage.old).config.stripes ≡ 1 }
     requires telling { S.is_telling stage.old ≡ true }

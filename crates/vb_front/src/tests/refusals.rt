@@ -128,7 +128,8 @@ fn nearly_numbered(alloc: Global) -> Option<Held> {
     Some(Held { part, queue, value })
 }
 
-/// A write that would take a number is refused behind the last one, after all that refuses it besides.
+/// A write of a key that would take a number is refused behind the last one. What else refuses it for good, and its want of an
+/// effect, come first.
 fn numbers_end(alloc: Global) -> bool {
     let Some(mut held) = nearly_numbered(alloc) else {
         return false;
@@ -174,7 +175,7 @@ fn write_of_an_inactive_vbucket_is_not_for_it(rt: HostRuntime) {
     assert!(rt; is_elsewhere(rt.alloc(), VbState::Dead));
 }
 
-/// A joined document has to fit an empty stripe. What refuses the Append besides comes first.
+/// A joined document has to fit an empty stripe and an empty queue. A missing document and another CAS come first.
 fn grows(alloc: Global) -> bool {
     let Some(mut held) = open_parts(alloc, Eviction::Value, 16, 16) else {
         return false;
