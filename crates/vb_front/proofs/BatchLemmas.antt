@@ -1,17 +1,15 @@
 -- A queue that stands holds the last mutation of each key that isn't stored.
-use Rattle.std.proofs.Common.{◌≡◌, ℕ, ◌+◌, ◌<◌, ◌≤◌, Bool, true, false, cond, List, [], ◌∷◌, ◌++◌, map, take, drop, refl, sym, ap, subst, ◌∙◌, arith}
+use Rattle.std.proofs.Common.{◌≡◌, ℕ, ◌<◌, ◌≤◌, Bool, true, false, cond, List, [], ◌∷◌, ◌++◌, map, take, drop, refl, sym, ap, subst, ◌∙◌, arith}
 use Rattle.std.specs.Prelude.{Option, Some, None, nat_lt}
-use Rattle.std.specs.List.{AllByRecursion}
 use Rattle.std.specs.Option.{option_map, option_or}
 use Rattle.std.specs.Str.{bytes_eq}
 use Rattle.std.proofs.lemmas.Bool.Decides.{nat_tests}
 use Rattle.std.proofs.lemmas.List.{take-append-drop}
-use Rattle.std.proofs.lemmas.List.Elements.{filter-append}
 use Rattle.ep_model.specs.declared.data.FrontData.{FrontData}
-use Rattle.ep_model.specs.World.{Doc, Item, doc_from, blank_doc}
+use Rattle.ep_model.specs.World.{Doc, Item, doc_from}
 use Rattle.ep_model.specs.Mutations.{above}
 use Rattle.ep_model.specs.Front.{started, world_of}
-use Rattle.ep_model.specs.Checkpoints.{cut, all_items, kept}
+use Rattle.ep_model.specs.Checkpoints.{cut, all_items}
 use Rattle.hold_stage.specs.Histories.{puts_of, last_of, AreNumbered}
 use Rattle.hold_stage.proofs.CheckpointLemmas.{kept_are_last}
 use Rattle.hold_stage.proofs.HistoryLemmas.{mutations_are_numbered}
