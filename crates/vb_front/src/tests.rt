@@ -1,8 +1,10 @@
 // Calls on held parts, with their answers written out.
+mod asked;
 mod at_stage;
 mod generated;
 mod held;
 mod opened;
+mod passed;
 mod places;
 mod refusals;
 mod served;

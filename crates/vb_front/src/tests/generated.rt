@@ -16,8 +16,9 @@ use super::config;
 use super::opened::Told;
 use super::served::{eject, fail, look, mark, merge, opened, persist, tried};
 use crate::{Part, Tried};
+use ep_edge::OpenGate;
 use ep_model::status::TEMPORARY_FAILURE;
-use ep_model::{Call, Config, Eviction, Meta, Out, Plain, Reply, StoreKind, Ticket};
+use ep_model::{Call, Config, Eviction, Meta, Out, Plain, Reply, StoreKind, Ticket, rules};
 use std::alloc::Global;
 use vb_world::World;
 
@@ -29,8 +30,8 @@ const BYTES: [u8; 1024] = [7; 1024];
 /// How many blocks a stripe has.
 const BLOCKS: u32 = 20;
 
-/// More blocks than any of the documents takes.
-const MOST: u32 = 10;
+/// The length of the longest number's text.
+const DIGITS: u64 = 20;
 
 fn draw(seed: &mut u32) -> u32 {
     *seed = seed.wrapping_mul(1664525).wrapping_add(1013904223);
@@ -227,12 +228,15 @@ impl Both {
     }
 
     /// Whether a call may be refused: the read that it waited for failed, or others that can't be ejected leave too little
-    /// room. Then all is stored.
-    fn may_refuse(&mut self, key: u8) -> bool
+    /// room for the document that it needs. Then all is stored. One without a key never may.
+    fn may_refuse(&mut self, key: u8, call: &Call) -> bool
         requires { IsUnderway self.old.served.config self.old.served.faults self.old.served.world }
         ensures { result ≡ true
             → IsUnderway self.new.served.config self.new.served.faults self.new.served.world }
     {
+        if !has_key(call) {
+            return false;
+        }
         if self.has_failed {
             self.has_failed = false;
             return true;
@@ -241,7 +245,9 @@ impl Both {
         let Some(told) = look(&mut self.served.world, &self.served.config, key) else {
             return false;
         };
-        if u64::from(BLOCKS) >= u64::from(told.pinned) + u64::from(MOST) {
+        let old = told.found[usize::from(key % 8)].or(stored_at(&self.stored, key));
+        let needed = most_needed(self.served.config.eviction, call, old);
+        if u64::from(BLOCKS) >= u64::from(told.pinned).saturating_add(needed) {
             return false;
         }
         if told.marked == told.high {
@@ -296,6 +302,7 @@ impl Both {
             now,
             prior,
             &mut served.value,
+            &mut OpenGate,
         )
     }
 
@@ -326,7 +333,7 @@ impl Both {
                 if reply != Reply::refusal(TEMPORARY_FAILURE) {
                     return Ok(self.is_plain(call, now, reply));
                 }
-                if self.may_refuse(key) {
+                if self.may_refuse(key, call) {
                     Err(None)
                 } else {
                     Ok(false)
@@ -400,6 +407,35 @@ impl Both {
                 self.is_answered(key, &call, now)
             }
         }
+    }
+}
+
+/// How many blocks a call on a key of one byte needs at most: those of the document that it puts, or of the old one.
+fn most_needed(eviction: Eviction, call: &Call, old: Option<Meta>) -> u64 {
+    let old_len = match old {
+        Some(meta) if !meta.deleted => u64::from(meta.len),
+        _ => 0,
+    };
+    let put_len = match *call {
+        Call::Store { value, .. } => value.len() as u64,
+        Call::Join { value, .. } => old_len.saturating_add(value.len() as u64),
+        Call::Count { .. } => DIGITS,
+        Call::Touch { .. } => old_len,
+        _ => 0,
+    };
+    let needed_len = if rules::needs(eviction, call) {
+        old_len
+    } else {
+        0
+    };
+    put_len.max(needed_len).div_ceil(128).saturating_add(1)
+}
+
+/// Whether a call is on a key.
+fn has_key(call: &Call) -> bool {
+    match *call {
+        Call::Observe { .. } | Call::Failovers | Call::SetState { .. } | Call::GetState => false,
+        _ => true,
     }
 }
 
@@ -534,7 +570,7 @@ fn store<'a>(kind: StoreKind, key: &'a [u8], more: u32, expiration: u32, cas: u6
     }
 }
 
-/// Whether so many steps go alike.
+/// Whether so many steps go alike, and no call has a place behind them.
 fn go_alike(both: &mut Both) -> bool
     requires { IsUnderway both.old.served.config both.old.served.faults both.old.served.world }
 {
@@ -551,7 +587,10 @@ fn go_alike(both: &mut Both) -> bool
             return false;
         }
     }
-    true
+    match look(&mut both.served.world, &both.served.config, 0) {
+        None => false,
+        Some(told) => told.used == 0,
+    }
 }
 
 /// Whether they do so on a new vBucket under this eviction, some of which wait for the store and some of which are refused for

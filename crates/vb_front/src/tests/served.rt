@@ -17,7 +17,7 @@ ghost use Rattle.vb_front.specs.declared.at_stage.Tried.TheVariants.{Fetch};
 use super::opened::{Told, eject_at, fail_at, look_at, mark_at, merge_at, open_at, persist_at};
 use super::worlds::one_vbucket;
 use crate::{Part, Tried, try_call};
-use ep_edge::OpenGate;
+use ep_edge::Gate;
 use ep_model::{Call, Config, Meta, Out, Ticket};
 use std::alloc::Global;
 use vb_world::World;
@@ -51,14 +51,15 @@ pub fn opened(alloc: Global, config: &Config) -> Option<World<Part>>
     Some(world)
 }
 
-/// Tries a call, for which there is room.
-pub fn tried(
+/// Tries a call, for which there is room, past a gate.
+pub fn tried<G: Gate>(
     world: &mut World<Part>,
     config: &Config,
     call: &Call,
     now: u64,
     prior: Option<Ticket>,
     value: &mut Out,
+    gate: &mut G,
 ) -> Option<Tried>
     requires opened { IsOpened config.now world.old }
     requires within { IsWithin (call_data call.now) }
@@ -80,19 +81,10 @@ pub fn tried(
         return None;
     };
     let mut stage = world.stage(0, CALLER);
-    Some(try_call(
-        &mut stage,
-        0,
-        config,
-        call,
-        now,
-        prior,
-        value,
-        &mut OpenGate,
-    ))
+    Some(try_call(&mut stage, 0, config, call, now, prior, value, gate))
 }
 
-/// Tells that all is stored, and answers whether all parts were there.
+/// Tells that all is stored, and answers whether all parts were there and the vBucket had opened.
 pub fn persist(world: &mut World<Part>, config: &Config) -> bool
     requires opened { IsOpened config.now world.old }
     ensures opened { result ≡ true → IsOpened config.now world.new }
@@ -108,7 +100,7 @@ pub fn persist(world: &mut World<Part>, config: &Config) -> bool
     persist_at(&mut stage)
 }
 
-/// Tells the stripe what is stored, and answers whether all parts were there.
+/// Tells the stripe what is stored, and answers whether all parts were there and the vBucket had opened.
 pub fn mark(world: &mut World<Part>, config: &Config) -> bool
     requires opened { IsOpened config.now world.old }
     ensures opened { result ≡ true → IsOpened config.now world.new }

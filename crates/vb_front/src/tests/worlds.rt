@@ -4,6 +4,7 @@ ghost use Rattle.ep_model.specs.declared.event.PartName.{PartName};
 ghost use Rattle.ep_model.specs.Config.{config_fault};
 ghost use Rattle.hold_stage.specs.Slots.{bare_front, StandBare};
 ghost use Rattle.vb_world.specs.World.{front_in, has_out};
+ghost use Rattle.vb_front.specs.Opened.{IsAtHome};
 ghost use Rattle.vb_front.specs.Parts.{part_stands};
 
 use crate::{DeskPart, Part, StripePart};
@@ -39,6 +40,7 @@ pub fn one_vbucket(alloc: Global, config: &Config) -> Result<World<Part>, NoMemo
     ensures bare { IfOk result (λ w. front_in w 0 ≡ bare_front config.now 0) }
     ensures home { IfOk result (λ w. (caller : ℕ) (part : PartName) → has_out w 0 caller part
         ≡ false) }
+    ensures there { IfOk result (IsAtHome config.now) }
 {
     let mut world = World::new(alloc, config)?;
     world.add(empty_parts(alloc, config)?)?;

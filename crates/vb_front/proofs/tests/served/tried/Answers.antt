@@ -8,7 +8,7 @@ use Rattle.vb_front.proofs.ServedLemmas.{tried_later, tried_asked}
 use Rattle.vb_front.proofs.tests.served.tried.Goals as goal
 
 pub returns-clause-later : goal.returns-clause-later
-returns-clause-later c =
+returns-clause-later g c =
     let t = c.try_call.ensures.tries in
     let m : IsLater (front_in c.args.world.now 0) (front_in c.try_call.new.stage.world.now 0) =
     tried_later c.args.world.now c.reserve.new.self c.stage-stage.result.world.now c.reserve.new.self.event_room c.reserve.new.self.byte_room c.stage-stage.result.vb
@@ -17,7 +17,7 @@ returns-clause-later c =
     subst (λ (f : FrontData). IsLater (front_in c.args.world.now 0) f) (search rules) m
 
 pub returns-clause-asked : goal.returns-clause-asked
-returns-clause-asked c = λ ticket is.
+returns-clause-asked g c = λ ticket is.
     let t = c.try_call.ensures.tries in
     let m : PriorStands (front_in c.try_call.new.stage.world.now 0) 7 (call_data c.args.call.now) ticket =
     tried_asked c.args.world.now c.reserve.new.self c.stage-stage.result.world.now c.reserve.new.self.event_room c.reserve.new.self.byte_room c.stage-stage.result.vb
