@@ -12,7 +12,6 @@ use ep_model::status::{KEY_NOT_FOUND, SUCCESS};
 use ep_model::{Call, Cause, Config, Eviction, Meta, OpenFault, Out, Reply, VbState};
 use failover_table::Failovers;
 use std::alloc::Global;
-use std::test::Fail;
 
 /// A queue without mutations, whose vBucket hasn't opened.
 fn empty_queue(alloc: Global) -> Result<Queue, OpenFault>
@@ -65,43 +64,34 @@ fn done(status: u16) -> Step {
     Step::Done(Reply::refusal(status))
 }
 
-#[test]
-fn calls_on_a_vbucket_have_these_bytes(rt: HostRuntime) -> Result<(), Fail> {
-    let mut value = Out::new(rt.alloc(), 1_048_576)?;
-    let mut queue = empty_queue(rt.alloc())?;
-    // without a failover table the uuid is 0, and nothing is answered before the vBucket has opened
+/// Without a failover table the uuid is 0, and nothing is answered before the vBucket has opened.
+fn answers_once_opened(alloc: Global) -> bool {
+    let (Ok(mut value), Ok(mut queue)) = (Out::new(alloc, 1_048_576), empty_queue(alloc)) else {
+        return false;
+    };
     value.push(b"left");
     let warming = Step::Refused(Cause::Warming);
-    assert!(rt;
-        comes_to(
-            &mut queue,
-            &Call::Observe { uuid: 0 },
-            &mut value,
-            warming,
-            b""
-        )
-    );
-    assert!(rt; comes_to(&mut queue, &Call::Failovers, &mut value, warming, b""));
-    assert!(rt; comes_to(&mut queue, &Call::GetState, &mut value, warming, b""));
+    let zero = Call::Observe { uuid: 0 };
+    let no_numbers = comes_to(&mut queue, &zero, &mut value, warming, b"");
+    let no_table = comes_to(&mut queue, &Call::Failovers, &mut value, warming, b"");
+    let no_state = comes_to(&mut queue, &Call::GetState, &mut value, warming, b"");
     queue.set_opened();
-    assert!(rt; comes_to(&mut queue, &Call::Failovers, &mut value, done(SUCCESS), b""));
+    let table = comes_to(&mut queue, &Call::Failovers, &mut value, done(SUCCESS), b"");
     let zeros = b"\x00\x01\x02\0\0\0\0\0\0\0\0\0\0\0\0\0\0\0\0\0\0\0\0\0\0\0\0";
-    assert!(rt;
-        comes_to(
-            &mut queue,
-            &Call::Observe { uuid: 0 },
-            &mut value,
-            done(SUCCESS),
-            zeros
-        )
-    );
-    Ok(())
+    let numbers = comes_to(&mut queue, &zero, &mut value, done(SUCCESS), zeros);
+    no_numbers && no_table && no_state && table && numbers
 }
 
 #[test]
-fn numbers_table_and_state_are_shown(rt: HostRuntime) -> Result<(), Fail> {
-    let mut value = Out::new(rt.alloc(), 1_048_576)?;
-    let mut queue = empty_queue(rt.alloc())?;
+fn calls_on_a_vbucket_have_these_bytes(rt: HostRuntime) {
+    assert!(rt; answers_once_opened(rt.alloc()));
+}
+
+/// A queue of two mutations behind a start with two entries.
+fn started_queue(alloc: Global) -> Option<Queue> {
+    let Ok(mut queue) = empty_queue(alloc) else {
+        return None;
+    };
     let mut table = Failovers::new();
     table.add(0x21, 0);
     table.add(0x1122_3344_5566_7788, 0x0708);
@@ -109,55 +99,58 @@ fn numbers_table_and_state_are_shown(rt: HostRuntime) -> Result<(), Fail> {
     queue.set_opened();
     put(&mut queue);
     put(&mut queue);
+    Some(queue)
+}
+
+/// The numbers are shown under the newest uuid alone. No state refuses these calls.
+fn shows_all(alloc: Global) -> bool {
+    let (Ok(mut value), Some(mut queue)) = (Out::new(alloc, 1_048_576), started_queue(alloc)) else {
+        return false;
+    };
     let newest = Call::Observe {
         uuid: 0x1122_3344_5566_7788,
     };
+    let older = Call::Observe { uuid: 0x21 };
     let numbers =
         b"\x00\x01\x02\x11\x22\x33\x44\x55\x66\x77\x88\0\0\0\0\0\0\x07\x09\0\0\0\0\0\0\x07\x0b";
     let entries =
         b"\x11\x22\x33\x44\x55\x66\x77\x88\0\0\0\0\0\0\x07\x08\0\0\0\0\0\0\0\x21\0\0\0\0\0\0\0\0";
-    assert!(rt; comes_to(&mut queue, &newest, &mut value, done(SUCCESS), numbers));
-    // an older entry's uuid isn't the newest
-    let older = Call::Observe { uuid: 0x21 };
-    assert!(rt; comes_to(&mut queue, &older, &mut value, done(KEY_NOT_FOUND), b""));
-    assert!(rt;
-        comes_to(
-            &mut queue,
-            &Call::Failovers,
-            &mut value,
-            done(SUCCESS),
-            entries
-        )
+    let shown = comes_to(&mut queue, &newest, &mut value, done(SUCCESS), numbers);
+    let other = comes_to(&mut queue, &older, &mut value, done(KEY_NOT_FOUND), b"");
+    let table = comes_to(
+        &mut queue,
+        &Call::Failovers,
+        &mut value,
+        done(SUCCESS),
+        entries,
     );
-    assert!(rt;
-        comes_to(
-            &mut queue,
-            &Call::GetState,
-            &mut value,
-            done(SUCCESS),
-            b"\0\0\0\x01"
-        )
+    let active = comes_to(
+        &mut queue,
+        &Call::GetState,
+        &mut value,
+        done(SUCCESS),
+        b"\0\0\0\x01",
     );
     queue.set_state(VbState::Dead);
-    assert!(rt;
-        comes_to(
-            &mut queue,
-            &Call::GetState,
-            &mut value,
-            done(SUCCESS),
-            b"\0\0\0\x04"
-        )
+    let dead = comes_to(
+        &mut queue,
+        &Call::GetState,
+        &mut value,
+        done(SUCCESS),
+        b"\0\0\0\x04",
     );
-    // no state refuses these calls
-    assert!(rt; comes_to(&mut queue, &newest, &mut value, done(SUCCESS), numbers));
-    assert!(rt;
-        comes_to(
-            &mut queue,
-            &Call::Failovers,
-            &mut value,
-            done(SUCCESS),
-            entries
-        )
+    let again = comes_to(&mut queue, &newest, &mut value, done(SUCCESS), numbers);
+    let same = comes_to(
+        &mut queue,
+        &Call::Failovers,
+        &mut value,
+        done(SUCCESS),
+        entries,
     );
-    Ok(())
+    shown && other && table && active && dead && again && same
+}
+
+#[test]
+fn numbers_table_and_state_are_shown(rt: HostRuntime) {
+    assert!(rt; shows_all(rt.alloc()));
 }
