@@ -45,7 +45,7 @@ pub enum Tried {
 }
 
 /// What a call works on.
-#[derive(Clone, Copy, Debug, PartialEq, Eq)]
+#[derive(Clone, Copy)]
 pub(crate) enum Kind {
     /// The stripe of its key.
     Read,
