@@ -61,16 +61,15 @@ fn take_all<S: Stage<Part = Part>>(stage: &mut S) -> Option<Parts>
         Ok(queue) => queue,
         Err(_) => return None,
     };
-    let desk = match stage.take(PartName::Desk) {
-        Ok(Part::Desk(desk)) => desk,
-        Ok(_) => return None,
-        Err(_) => return None,
-    };
-    Some(Parts {
-        stripe,
-        queue,
-        desk,
-    })
+    match stage.take(PartName::Desk) {
+        Ok(Part::Desk(desk)) => Some(Parts {
+            stripe,
+            queue,
+            desk,
+        }),
+        Ok(_) => unreachable!(),
+        Err(_) => None,
+    }
 }
 
 /// Gives all parts back.
